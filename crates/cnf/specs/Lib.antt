@@ -1,3 +1,6 @@
 pub mod Literals
 pub mod Order
 pub mod Faults
+pub mod Clauses
+pub mod Propagation
+pub mod Arranging
