@@ -4,3 +4,5 @@ pub mod Faults
 pub mod Clauses
 pub mod Propagation
 pub mod Arranging
+pub mod Ascending
+pub mod Drafts
