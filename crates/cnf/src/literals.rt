@@ -16,7 +16,10 @@ impl Literal {
         ensures { λ r. ⌜ r ≡ complement self ⌝ }
     {
         let negated = !self.negated;
-        Literal { variable: self.variable, negated }
+        Literal {
+            variable: self.variable,
+            negated,
+        }
     }
 }
 
@@ -25,6 +28,7 @@ pub impl TotalOrder for Literal as ByVariable {
     ghost before = { earlier };
 
     fn is_before(&self, other: &Literal) -> bool {
-        self.variable < other.variable || (self.variable == other.variable && !self.negated && other.negated)
+        self.variable < other.variable
+            || (self.variable == other.variable && !self.negated && other.negated)
     }
 }
