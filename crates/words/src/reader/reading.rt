@@ -1,0 +1,48 @@
+//! What a reader of words does.
+ghost use mathlib.Core.Path.{_≡_};
+ghost use Prim.Native.Nat.{ℕ, _+_, _-_, _*_, _<_, _≤_};
+ghost use lib.ListN.{length, getD, take, drop};
+ghost use Rattle.words.specs.Lexis.{shape};
+ghost use Rattle.words.specs.Texts.{wordsOf, nextOf, restOf};
+ghost use Rattle.words.specs.Reading.{shapeOf, shown, left, extent};
+use crate::lexis::is_number;
+use crate::lexis::run;
+use crate::lexis::skip;
+use crate::reader::Placed;
+use crate::reader::Word;
+use crate::reader::Words;
+
+fn classed<'a>(bytes: &'a [u8]) -> Word<'a>
+    ensures { λ r. ⌜ shapeOf r ≡ shape (now (bytes .entry)) ⌝ }
+{
+    if bytes.is_empty() {
+        Word::End
+    } else if is_number(bytes) {
+        Word::Number(bytes)
+    } else {
+        Word::Name(bytes)
+    }
+}
+
+impl<'a> Words<'a> {
+    /// A reader that stands at the text's start.
+    pub fn new(text: &'a [u8]) -> Words<'a>
+        ensures words { λ r. ⌜ left r ≡ wordsOf (now (text .entry)) ⌝ }
+        ensures extent { λ r. ⌜ extent r ≡ length (now (text .entry)) ⌝ }
+    {
+        Words { text, at: 0 }
+    }
+
+    /// The next word with its place, or the text's end.
+    pub fn next(&mut self) -> Placed<'a>
+        ensures word { λ r. ⌜ shown r ≡ nextOf (extent (now (self .entry))) (left (now (self .entry))) ⌝ }
+        ensures rest { λ _. ⌜ left (now (self .exit)) ≡ restOf (left (now (self .entry))) ⌝ }
+        ensures extent { λ _. ⌜ extent (now (self .exit)) ≡ extent (now (self .entry)) ⌝ }
+    {
+        let place = skip(self.text, self.at);
+        let end = run(self.text, place);
+        self.at = end;
+        let word = classed(&self.text[place..end]);
+        Placed { word, place }
+    }
+}
