@@ -4,3 +4,4 @@ pub mod Values
 pub mod Walks
 pub mod Nexts
 pub mod Spoken
+pub mod Runs

@@ -110,7 +110,7 @@ pub fn is_unsigned(w: &[u8]) -> bool
 }
 
 /// Whether the word is a number: one without a sign, or a minus ahead of digits that do not begin with 0.
-pub fn is_number(w: &[u8]) -> bool
+pub(crate) fn is_number(w: &[u8]) -> bool
     ensures { λ r. ⌜ r ≡ numeral (now (w .entry)) ⌝ }
 {
     match w {

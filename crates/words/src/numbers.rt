@@ -22,3 +22,25 @@ pub fn value16(digits: &[u8]) -> u16
 {
     value64(digits).min(65535) as u16
 }
+
+#[cfg(test)]
+mod tests {
+    use super::*;
+    use std::test::*;
+
+    #[test]
+    fn values() -> Result<(), Fail> {
+        for (digits, small, large) in [
+            (b"".as_slice(), 0, 0),
+            (b"65535", 65535, 65535),
+            (b"65536", 65535, 65536),
+            (b"4294967296", 65535, 4294967296),
+            (b"18446744073709551615", 65535, u64::MAX),
+            (b"18446744073709551616", 65535, u64::MAX),
+        ] {
+            check_eq(value16(digits), small)?;
+            check_eq(value64(digits), large)?;
+        }
+        Ok(())
+    }
+}

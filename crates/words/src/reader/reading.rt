@@ -46,3 +46,41 @@ impl<'a> Words<'a> {
         Placed { word, place }
     }
 }
+
+#[cfg(test)]
+mod tests {
+    use super::*;
+    use std::test::*;
+
+    fn is_first(text: &[u8], wanted: Word, place: usize) -> bool {
+        let first = Words::new(text).next();
+        let same = match (first.word, wanted) {
+            (Word::Name(a), Word::Name(b)) => a == b,
+            (Word::Number(a), Word::Number(b)) => a == b,
+            (Word::End, Word::End) => true,
+            _ => false,
+        };
+        same && first.place == place
+    }
+
+    #[test]
+    fn first_words() -> Result<(), Fail> {
+        for (text, word, place) in [
+            (b"".as_slice(), Word::End, 0),
+            (b"c all\r of it", Word::End, 12),
+            (b"cnf 3 5\np 1", Word::Name(b"p"), 8),
+            (b" c 1", Word::Name(b"c"), 1),
+            (b"\t\r\nc\n-7\r1", Word::Number(b"-7"), 5),
+            (b"\xff\0 1", Word::Name(b"\xff\0"), 0),
+            (b"0", Word::Number(b"0"), 0),
+            (b"-0", Word::Name(b"-0"), 0),
+            (b"01 ", Word::Name(b"01"), 0),
+            (b"+1", Word::Name(b"+1"), 0),
+            (b"-", Word::Name(b"-"), 0),
+            (b"99999999999999999999", Word::Number(b"99999999999999999999"), 0),
+        ] {
+            check(is_first(text, word, place))?;
+        }
+        Ok(())
+    }
+}
