@@ -1,0 +1,7 @@
+pub mod Gaps
+pub mod Numerals
+pub mod Values
+pub mod Walks
+pub mod Nexts
+pub mod Spoken
+pub mod Runs

@@ -1,0 +1,86 @@
+//! What a reader of words does.
+ghost use mathlib.Core.Path.{_≡_};
+ghost use Prim.Native.Nat.{ℕ, _+_, _-_, _*_, _<_, _≤_};
+ghost use lib.ListN.{length, getD, take, drop};
+ghost use Rattle.words.specs.Lexis.{shape};
+ghost use Rattle.words.specs.Texts.{wordsOf, nextOf, restOf};
+ghost use Rattle.words.specs.Reading.{shapeOf, shown, left, extent};
+use crate::lexis::is_number;
+use crate::lexis::run;
+use crate::lexis::skip;
+use crate::reader::Placed;
+use crate::reader::Word;
+use crate::reader::Words;
+
+fn classed<'a>(bytes: &'a [u8]) -> Word<'a>
+    ensures { λ r. ⌜ shapeOf r ≡ shape (now (bytes .entry)) ⌝ }
+{
+    if bytes.is_empty() {
+        Word::End
+    } else if is_number(bytes) {
+        Word::Number(bytes)
+    } else {
+        Word::Name(bytes)
+    }
+}
+
+impl<'a> Words<'a> {
+    /// A reader that stands at the text's start.
+    pub fn new(text: &'a [u8]) -> Words<'a>
+        ensures words { λ r. ⌜ left r ≡ wordsOf (now (text .entry)) ⌝ }
+        ensures extent { λ r. ⌜ extent r ≡ length (now (text .entry)) ⌝ }
+    {
+        Words { text, at: 0 }
+    }
+
+    /// The next word with its place, or the text's end.
+    pub fn next(&mut self) -> Placed<'a>
+        ensures word { λ r. ⌜ shown r ≡ nextOf (extent (now (self .entry))) (left (now (self .entry))) ⌝ }
+        ensures rest { λ _. ⌜ left (now (self .exit)) ≡ restOf (left (now (self .entry))) ⌝ }
+        ensures extent { λ _. ⌜ extent (now (self .exit)) ≡ extent (now (self .entry)) ⌝ }
+    {
+        let place = skip(self.text, self.at);
+        let end = run(self.text, place);
+        self.at = end;
+        let word = classed(&self.text[place..end]);
+        Placed { word, place }
+    }
+}
+
+#[cfg(test)]
+mod tests {
+    use super::*;
+    use std::test::*;
+
+    fn is_first(text: &[u8], wanted: Word, place: usize) -> bool {
+        let first = Words::new(text).next();
+        let same = match (first.word, wanted) {
+            (Word::Name(a), Word::Name(b)) => a == b,
+            (Word::Number(a), Word::Number(b)) => a == b,
+            (Word::End, Word::End) => true,
+            _ => false,
+        };
+        same && first.place == place
+    }
+
+    #[test]
+    fn first_words() -> Result<(), Fail> {
+        for (text, word, place) in [
+            (b"".as_slice(), Word::End, 0),
+            (b"c all\r of it", Word::End, 12),
+            (b"cnf 3 5\np 1", Word::Name(b"p"), 8),
+            (b" c 1", Word::Name(b"c"), 1),
+            (b"\t\r\nc\n-7\r1", Word::Number(b"-7"), 5),
+            (b"\xff\0 1", Word::Name(b"\xff\0"), 0),
+            (b"0", Word::Number(b"0"), 0),
+            (b"-0", Word::Name(b"-0"), 0),
+            (b"01 ", Word::Name(b"01"), 0),
+            (b"+1", Word::Name(b"+1"), 0),
+            (b"-", Word::Name(b"-"), 0),
+            (b"99999999999999999999", Word::Number(b"99999999999999999999"), 0),
+        ] {
+            check(is_first(text, word, place))?;
+        }
+        Ok(())
+    }
+}
