@@ -1,0 +1,5 @@
+//! Writers of numbers, literals, clauses, formulas and refusals as lines of bytes.
+pub mod faults;
+mod puts;
+mod room;
+pub mod writers;
