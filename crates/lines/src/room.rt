@@ -1,13 +1,12 @@
 //! How much room a text takes. Lengths are taken off the room that is left, so that no sum of them overflows.
 ghost use mathlib.Core.Path.{_≡_};
 ghost use mathlib.Core.List.{map};
-ghost use Prim.Native.Nat.{_+_, _-_, _≤_};
-ghost use lib.Dec.{leb};
+ghost use Prim.Native.Nat.{_≤_};
 ghost use lib.ListN.{length};
-ghost use Rattle.std.specs.Numbers.{Checked};
 ghost use Rattle.std.specs.Joined.{joined};
 ghost use Rattle.std.specs.Of.Vec.{vec-items};
 ghost use Rattle.std.specs.Written.{decimal};
+ghost use Rattle.lines.specs.Put.{Leaves};
 ghost use Rattle.lines.specs.Texts.{literalText, clauseLine, pairLine};
 
 use cnf::literals::Literal;
@@ -39,7 +38,7 @@ pub fn pair_len(word: &[u8], first: u64, second: u64) -> usize
 
 /// What a clause's line leaves of the room, or that it finds none.
 pub fn after_clause(room: usize, clause: &[Literal]) -> Option<usize>
-    ensures { λ r. ⌜ Checked r (length (clauseLine (now (clause .entry))) ≤ room) (room - length (clauseLine (now (clause .entry)))) ⌝ }
+    ensures { λ r. ⌜ Leaves room (length (clauseLine (now (clause .entry)))) r ⌝ }
 {
     let mut left = room;
     for literal in clause {
@@ -50,7 +49,7 @@ pub fn after_clause(room: usize, clause: &[Literal]) -> Option<usize>
 
 /// What the lines of clauses leave of the room, or that they find none.
 pub fn after_clauses(room: usize, clauses: &[Vec<Literal>]) -> Option<usize>
-    ensures { λ r. ⌜ Checked r (length (joined clauseLine (map vec-items (now (clauses .entry)))) ≤ room) (room - length (joined clauseLine (map vec-items (now (clauses .entry))))) ⌝ }
+    ensures { λ r. ⌜ Leaves room (length (joined clauseLine (map vec-items (now (clauses .entry))))) r ⌝ }
 {
     let mut left = room;
     for clause in clauses {

@@ -15,6 +15,9 @@ use crate::faults::WriteFault;
 use crate::puts;
 use crate::room;
 
+/// The words that begin a heading line.
+const HEADING: &[u8] = b"p cnf ";
+
 /// Whether a text of `len` bytes finds room from `at` on, in a slice of `room` bytes.
 fn fits(room: usize, at: usize, len: usize) -> bool
     ensures { λ r. ⌜ r ≡ leb (at + len) room ⌝ }
@@ -67,7 +70,7 @@ fn write_pair(out: &mut [u8], at: usize, word: &[u8], first: u64, second: u64) -
 pub fn write_heading(out: &mut [u8], at: usize, variables: u64, clauses: u64) -> Result<usize, WriteFault>
     ensures { λ r. ⌜ Writes (now (out .entry)) at (headingLine variables clauses) r (now (out .exit)) ⌝ }
 {
-    write_pair(out, at, b"p cnf ", variables, clauses)
+    write_pair(out, at, HEADING, variables, clauses)
 }
 
 /// Writes the line of a refusal: `refused`, its number and its place.
@@ -81,13 +84,13 @@ pub fn write_refusal(out: &mut [u8], at: usize, number: u8, place: usize) -> Res
 pub fn write_formula(out: &mut [u8], at: usize, variables: u16, clauses: &[Vec<Literal>]) -> Result<usize, WriteFault>
     ensures { λ r. ⌜ Writes (now (out .entry)) at (formulaText variables (map vec-items (now (clauses .entry)))) r (now (out .exit)) ⌝ }
 {
+    let Some(room) = room::after_clauses(out.len(), clauses) else {
+        return Err(WriteFault::NoRoom);
+    };
     let count = clauses.len() as u64;
-    let heading_len = room::pair_len(b"p cnf ", variables as u64, count);
-    match room::after_clauses(out.len(), clauses) {
-        Some(room) if fits(room, at, heading_len) => {
-            let next = puts::put_pair(out, at, b"p cnf ", variables as u64, count);
-            Ok(puts::put_clauses(out, next, clauses))
-        }
-        _ => Err(WriteFault::NoRoom),
+    if !fits(room, at, room::pair_len(HEADING, variables as u64, count)) {
+        return Err(WriteFault::NoRoom);
     }
+    let next = puts::put_pair(out, at, HEADING, variables as u64, count);
+    Ok(puts::put_clauses(out, next, clauses))
 }
