@@ -2,4 +2,6 @@
 pub mod faults;
 mod puts;
 mod room;
+#[cfg(test)]
+mod tests;
 pub mod writers;
