@@ -1,0 +1,4 @@
+pub mod Faults
+pub mod Put
+pub mod Texts
+pub mod Writes
