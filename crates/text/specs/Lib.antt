@@ -1,3 +1,5 @@
 pub mod Faults
 pub mod Formulas
 pub mod Readers
+pub mod Memory
+pub mod Standard
