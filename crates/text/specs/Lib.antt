@@ -3,3 +3,4 @@ pub mod Formulas
 pub mod Readers
 pub mod Memory
 pub mod Standard
+pub mod Round
