@@ -13,10 +13,8 @@ ghost use Rattle.lines.specs.Writes.{Writes};
 use cnf::literals::Literal;
 use crate::faults::WriteFault;
 use crate::puts;
+use crate::puts::HEADING;
 use crate::room;
-
-/// The words that begin a heading line.
-const HEADING: &[u8] = b"p cnf ";
 
 /// Whether a text of `len` bytes finds room from `at` on, in a slice of `room` bytes.
 fn fits(room: usize, at: usize, len: usize) -> bool
@@ -84,13 +82,8 @@ pub fn write_refusal(out: &mut [u8], at: usize, number: u8, place: usize) -> Res
 pub fn write_formula(out: &mut [u8], at: usize, variables: u16, clauses: &[Vec<Literal>]) -> Result<usize, WriteFault>
     ensures { λ r. ⌜ Writes (now (out .entry)) at (formulaText variables (map vec-items (now (clauses .entry)))) r (now (out .exit)) ⌝ }
 {
-    let Some(room) = room::after_clauses(out.len(), clauses) else {
-        return Err(WriteFault::NoRoom);
-    };
-    let count = clauses.len() as u64;
-    if !fits(room, at, room::pair_len(HEADING, variables as u64, count)) {
-        return Err(WriteFault::NoRoom);
+    match room::after_formula(out.len(), variables, clauses) {
+        Some(last) if at <= last => Ok(puts::put_formula(out, at, variables, clauses)),
+        _ => Err(WriteFault::NoRoom),
     }
-    let next = puts::put_pair(out, at, HEADING, variables as u64, count);
-    Ok(puts::put_clauses(out, next, clauses))
 }
