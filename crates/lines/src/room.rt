@@ -33,7 +33,7 @@ pub fn pair_len(word: &[u8], first: u64, second: u64) -> usize
     requires { ⌜ length (now word) ≤ 8 ⌝ }
     ensures { λ r. ⌜ r ≡ length (pairLine (now (word .entry)) first second) ⌝ }
 {
-    word.len() + number_len(first) + 1 + number_len(second) + 1
+    word.len() + number_len(first) + number_len(second) + 2
 }
 
 /// What a clause's line leaves of the room, or that it finds none.
