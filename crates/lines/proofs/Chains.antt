@@ -42,10 +42,10 @@ put-put out at cs n bs e h =
     let long : length before ≡ n = length-append (take at out) cs ∙ ap (λ k. k + length cs) (length-take-le at out h) ∙ sym e in
     let more : (at + length cs) + length bs ≡ at + length (cs ++ bs) = omega (arith, length-append cs bs) in
     let tail : drop (n + length bs) (put out at cs) ≡ drop (at + length (cs ++ bs)) out =
-        sym (drop-drop (length bs) n (put out at cs))
-        ∙ ap (λ l. drop (length bs) l) (ap (λ l. drop n l) split ∙ drop-at before rest n long)
-        ∙ drop-drop (length bs) (at + length cs) out
-        ∙ ap (λ k. drop k out) more in
+    sym (drop-drop (length bs) n (put out at cs))
+    ∙ ap (λ l. drop (length bs) l) (ap (λ l. drop n l) split ∙ drop-at before rest n long)
+    ∙ drop-drop (length bs) (at + length cs) out
+    ∙ ap (λ k. drop k out) more in
     ap (λ l. l ++ (bs ++ drop (n + length bs) (put out at cs))) (ap (λ l. take n l) split ∙ take-at before rest n long)
     ∙ append-assoc (take at out) cs (bs ++ drop (n + length bs) (put out at cs))
     ∙ ap (λ l. take at out ++ l) (sym (append-assoc cs bs (drop (n + length bs) (put out at cs))) ∙ ap (λ l. (cs ++ bs) ++ l) tail)
@@ -72,24 +72,24 @@ module _ {out : List ℕ} {at : ℕ} where
   pub writes-ok : {bs : List ℕ} {r : ℕ} {out′ : List ℕ} → Writes out at bs (Ok r) out′ → (at + length bs ≤ length out) × Puts out at bs r out′
   writes-ok {bs} {r} {out′} w =
       elim (cases-bool (hasRoom out at bs)) [
-        inl h ↦
-          let e : _≡_ {A = Result ℕ WriteFault} (Ok r) (Ok (at + length bs)) = w .answer ∙ cond-true _ _ _ h in
-          (leb-true _ _ h, record { after = w .after ∙ cond-true _ _ _ h; next = cc })
-      | inr h ↦
-          let e : _≡_ {A = Result ℕ WriteFault} (Ok r) (Err NoRoom) = w .answer ∙ cond-false _ _ _ h in
-          let z : _≡_ {A = ℕ} 0 1 = cc in
-          absurd (omega arith)
+        | inl h ↦
+            let e : _≡_ {A = Result ℕ WriteFault} (Ok r) (Ok (at + length bs)) = w .answer ∙ cond-true _ _ _ h in
+            (leb-true _ _ h, record { after = w .after ∙ cond-true _ _ _ h; next = cc })
+        | inr h ↦
+            let e : _≡_ {A = Result ℕ WriteFault} (Ok r) (Err NoRoom) = w .answer ∙ cond-false _ _ _ h in
+            let z : _≡_ {A = ℕ} 0 1 = cc in
+            absurd (omega arith)
       ]
 
   -- a writer that refuses had no room, and changed nothing
   pub writes-err : {bs : List ℕ} {fault : WriteFault} {out′ : List ℕ} → Writes out at bs (Err fault) out′ → (length out < at + length bs) × (out′ ≡ out)
   writes-err {bs} {fault} {out′} w =
       elim (cases-bool (hasRoom out at bs)) [
-        inl h ↦
-          let e : _≡_ {A = Result ℕ WriteFault} (Err fault) (Ok (at + length bs)) = w .answer ∙ cond-true _ _ _ h in
-          let z : _≡_ {A = ℕ} 0 1 = cc in
-          absurd (omega arith)
-      | inr h ↦ (leb-false _ _ h, w .after ∙ cond-false _ _ _ h)
+        | inl h ↦
+            let e : _≡_ {A = Result ℕ WriteFault} (Err fault) (Ok (at + length bs)) = w .answer ∙ cond-true _ _ _ h in
+            let z : _≡_ {A = ℕ} 0 1 = cc in
+            absurd (omega arith)
+        | inr h ↦ (leb-false _ _ h, w .after ∙ cond-false _ _ _ h)
       ]
 
 -- two texts written one after the other are one text written

@@ -1,5 +1,4 @@
 //! Texts put into a slice that has room for them. Each function answers the place after its text.
-ghost use mathlib.Core.Path.{_≡_};
 ghost use mathlib.Core.List.{[], _∷_, map};
 ghost use Prim.Native.Nat.{_+_, _≤_};
 ghost use lib.ListN.{length};
@@ -7,7 +6,6 @@ ghost use Rattle.std.specs.Of.Vec.{vec-items};
 ghost use Rattle.std.specs.Written.{decimal};
 ghost use Rattle.lines.specs.Put.{Puts};
 ghost use Rattle.lines.specs.Texts.{literalText, clauseLine, pairLine, formulaText};
-
 use cnf::literals::Literal;
 
 /// The words that begin a heading line.

@@ -7,9 +7,8 @@ ghost use Rattle.std.specs.Of.Vec.{vec-items};
 ghost use Rattle.std.specs.Written.{decimal};
 ghost use Rattle.lines.specs.Put.{Leaves};
 ghost use Rattle.lines.specs.Texts.{literalText, clauseLine, pairLine, formulaText};
-
-use cnf::literals::Literal;
 use crate::puts::HEADING;
+use cnf::literals::Literal;
 
 /// How many digits a number has.
 pub fn number_len(n: u64) -> usize
@@ -36,7 +35,7 @@ pub fn pair_len(word: &[u8], first: u64, second: u64) -> usize
     word.len() + number_len(first) + number_len(second) + 2
 }
 
-/// What a clause's line leaves of the room, or that it finds none.
+/// What a clause's line leaves of the room, which is the last place that it can start at, or that it finds none.
 pub fn after_clause(room: usize, clause: &[Literal]) -> Option<usize>
     ensures { λ r. ⌜ Leaves room (length (clauseLine (now (clause .entry)))) r ⌝ }
 {
@@ -47,7 +46,7 @@ pub fn after_clause(room: usize, clause: &[Literal]) -> Option<usize>
     left.checked_sub(2)
 }
 
-/// What a formula leaves of the room, or that it finds none.
+/// What a formula leaves of the room, which is the last place that it can start at, or that it finds none.
 pub fn after_formula(room: usize, variables: u16, clauses: &[Vec<Literal>]) -> Option<usize>
     ensures { λ r. ⌜ Leaves room (length (formulaText variables (map vec-items (now (clauses .entry))))) r ⌝ }
 {
