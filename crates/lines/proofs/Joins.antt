@@ -39,11 +39,6 @@ module _ {X : Type 0} (f : X → List ℕ) where
   pub joined-read-room : (xs : List X) (i : ℕ) (x : X) (bs : List ℕ) → i < length xs → x ≡ getD xs i x → bs ≡ f x → length (joined f (take i xs)) + length bs ≤ length (joined f xs)
   joined-read-room xs i x bs h is e = omega (arith, joined-room xs i x h, ap length (e ∙ ap f is))
 
--- the texts of what a function gives
-pub joined-map : {X Y : Type 0} (f : Y → List ℕ) (g : X → Y) (xs : List X) → joined f (map g xs) ≡ joined (λ x. f (g x)) xs
-joined-map f g [] = refl
-joined-map f g (x ∷ xs) = ap (λ l. f (g x) ++ l) (joined-map f g xs)
-
 -- what a literal past the end of a clause reads as
 abbrev pub none : Literal
 none = record { variable = 0; negated = false }
@@ -57,12 +52,17 @@ length-clause clause = length-append (joined literalWord clause) (codes "0\n")
 pub length-pair : (word : List ℕ) (first second : ℕ) → length (pairLine word first second) ≡ length word + length (decimal first) + 1 + length (decimal second) + 1
 length-pair word first second = simp length-append
 
--- a formula of clauses that a function gives
-pub formula-of : {X : Type 0} (variables : ℕ) (g : X → List Literal) (xs : List X) → formulaText variables (map g xs) ≡ headingLine variables (length xs) ++ joined clauseLine (map g xs)
-formula-of variables g xs = ap (λ n. headingLine variables n ++ joined clauseLine (map g xs)) (length-map xs g)
+joined-map : {X Y : Type 0} (f : Y → List ℕ) (g : X → Y) (xs : List X) → joined f (map g xs) ≡ joined (λ x. f (g x)) xs
+joined-map f g [] = refl
+joined-map f g (x ∷ xs) = ap (λ l. f (g x) ++ l) (joined-map f g xs)
 
-pub length-formula : {X : Type 0} (variables : ℕ) (g : X → List Literal) (xs : List X) → length (formulaText variables (map g xs)) ≡ length (headingLine variables (length xs)) + length (joined clauseLine (map g xs))
-length-formula variables g xs = ap length (formula-of variables g xs) ∙ length-append (headingLine variables (length xs)) (joined clauseLine (map g xs))
+-- a formula of clauses that a function gives
+pub formula-of : {X : Type 0} (variables : ℕ) (g : X → List Literal) (xs : List X) → formulaText variables (map g xs) ≡ headingLine variables (length xs) ++ joined (λ x. clauseLine (g x)) xs
+formula-of variables g xs =
+    ap (λ n. headingLine variables n ++ joined clauseLine (map g xs)) (length-map xs g) ∙ ap (λ l. headingLine variables (length xs) ++ l) (joined-map clauseLine g xs)
+
+pub length-formula : {X : Type 0} (variables : ℕ) (g : X → List Literal) (xs : List X) → length (formulaText variables (map g xs)) ≡ length (headingLine variables (length xs)) + length (joined (λ x. clauseLine (g x)) xs)
+length-formula variables g xs = ap length (formula-of variables g xs) ∙ length-append (headingLine variables (length xs)) (joined (λ x. clauseLine (g x)) xs)
 
 -- what a text leaves of the room that the texts ahead of it left
 pub leaves-then : (o : Option ℕ) (ahead n total room left : ℕ) → ahead + left ≡ room → total ≡ ahead + n → Leaves left n o → Leaves room total o

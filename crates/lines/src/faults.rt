@@ -1,7 +1,6 @@
 //! Why a writer refuses.
 ghost use mathlib.Core.Path.{_≡_};
 ghost use Rattle.lines.specs.Faults.{numberOf, layerOf, placeOf};
-
 use cnf::faults::Layer;
 
 /// Why a text is not written.

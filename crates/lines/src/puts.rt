@@ -1,15 +1,15 @@
 //! Texts put into a slice that has room for them. Each function answers the place after its text.
-ghost use mathlib.Core.Path.{_≡_};
 ghost use mathlib.Core.List.{[], _∷_, map};
 ghost use Prim.Native.Nat.{_+_, _≤_};
 ghost use lib.ListN.{length};
-ghost use Rattle.std.specs.Joined.{joined};
 ghost use Rattle.std.specs.Of.Vec.{vec-items};
 ghost use Rattle.std.specs.Written.{decimal};
 ghost use Rattle.lines.specs.Put.{Puts};
-ghost use Rattle.lines.specs.Texts.{literalText, clauseLine, pairLine};
-
+ghost use Rattle.lines.specs.Texts.{literalText, clauseLine, pairLine, formulaText};
 use cnf::literals::Literal;
+
+/// The words that begin a heading line.
+pub const HEADING: &[u8] = b"p cnf ";
 
 /// Puts a byte.
 pub fn put_byte(out: &mut [u8], at: usize, byte: u8) -> usize
@@ -68,18 +68,6 @@ pub fn put_clause(out: &mut [u8], at: usize, clause: &[Literal]) -> usize
     put_bytes(out, next, b"0\n")
 }
 
-/// Puts the lines of clauses.
-pub fn put_clauses(out: &mut [u8], at: usize, clauses: &[Vec<Literal>]) -> usize
-    requires { ⌜ at + length (joined clauseLine (map vec-items (now clauses))) ≤ length (now out) ⌝ }
-    ensures { λ r. ⌜ Puts (now (out .entry)) at (joined clauseLine (map vec-items (now (clauses .entry)))) r (now (out .exit)) ⌝ }
-{
-    let mut next = at;
-    for clause in clauses {
-        next = put_clause(out, next, clause);
-    }
-    next
-}
-
 /// Puts the line of a word and two numbers.
 pub fn put_pair(out: &mut [u8], at: usize, word: &[u8], first: u64, second: u64) -> usize
     requires { ⌜ at + length (pairLine (now word) first second) ≤ length (now out) ⌝ }
@@ -90,4 +78,16 @@ pub fn put_pair(out: &mut [u8], at: usize, word: &[u8], first: u64, second: u64)
     let next = put_byte(out, next, b' ');
     let next = put_number(out, next, second);
     put_byte(out, next, b'\n')
+}
+
+/// Puts a formula.
+pub fn put_formula(out: &mut [u8], at: usize, variables: u16, clauses: &[Vec<Literal>]) -> usize
+    requires { ⌜ at + length (formulaText variables (map vec-items (now clauses))) ≤ length (now out) ⌝ }
+    ensures { λ r. ⌜ Puts (now (out .entry)) at (formulaText variables (map vec-items (now (clauses .entry)))) r (now (out .exit)) ⌝ }
+{
+    let mut next = put_pair(out, at, HEADING, variables as u64, clauses.len() as u64);
+    for clause in clauses {
+        next = put_clause(out, next, clause);
+    }
+    next
 }

@@ -3,12 +3,11 @@ ghost use mathlib.Core.Path.{_≡_};
 ghost use mathlib.Core.List.{map};
 ghost use Prim.Native.Nat.{_≤_};
 ghost use lib.ListN.{length};
-ghost use Rattle.std.specs.Joined.{joined};
 ghost use Rattle.std.specs.Of.Vec.{vec-items};
 ghost use Rattle.std.specs.Written.{decimal};
 ghost use Rattle.lines.specs.Put.{Leaves};
-ghost use Rattle.lines.specs.Texts.{literalText, clauseLine, pairLine};
-
+ghost use Rattle.lines.specs.Texts.{literalText, clauseLine, pairLine, formulaText};
+use crate::puts::HEADING;
 use cnf::literals::Literal;
 
 /// How many digits a number has.
@@ -33,10 +32,10 @@ pub fn pair_len(word: &[u8], first: u64, second: u64) -> usize
     requires { ⌜ length (now word) ≤ 8 ⌝ }
     ensures { λ r. ⌜ r ≡ length (pairLine (now (word .entry)) first second) ⌝ }
 {
-    word.len() + number_len(first) + 1 + number_len(second) + 1
+    word.len() + number_len(first) + number_len(second) + 2
 }
 
-/// What a clause's line leaves of the room, or that it finds none.
+/// What a clause's line leaves of the room, which is the last place that it can start at, or that it finds none.
 pub fn after_clause(room: usize, clause: &[Literal]) -> Option<usize>
     ensures { λ r. ⌜ Leaves room (length (clauseLine (now (clause .entry)))) r ⌝ }
 {
@@ -47,11 +46,11 @@ pub fn after_clause(room: usize, clause: &[Literal]) -> Option<usize>
     left.checked_sub(2)
 }
 
-/// What the lines of clauses leave of the room, or that they find none.
-pub fn after_clauses(room: usize, clauses: &[Vec<Literal>]) -> Option<usize>
-    ensures { λ r. ⌜ Leaves room (length (joined clauseLine (map vec-items (now (clauses .entry))))) r ⌝ }
+/// What a formula leaves of the room, which is the last place that it can start at, or that it finds none.
+pub fn after_formula(room: usize, variables: u16, clauses: &[Vec<Literal>]) -> Option<usize>
+    ensures { λ r. ⌜ Leaves room (length (formulaText variables (map vec-items (now (clauses .entry))))) r ⌝ }
 {
-    let mut left = room;
+    let mut left = room.checked_sub(pair_len(HEADING, variables as u64, clauses.len() as u64))?;
     for clause in clauses {
         left = after_clause(left, clause)?;
     }

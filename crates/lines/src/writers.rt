@@ -9,14 +9,11 @@ ghost use Rattle.std.specs.Of.Vec.{vec-items};
 ghost use Rattle.std.specs.Written.{decimal};
 ghost use Rattle.lines.specs.Texts.{literalText, clauseLine, pairLine, headingLine, formulaText, refusalLine};
 ghost use Rattle.lines.specs.Writes.{Writes};
-
-use cnf::literals::Literal;
 use crate::faults::WriteFault;
 use crate::puts;
+use crate::puts::HEADING;
 use crate::room;
-
-/// The words that begin a heading line.
-const HEADING: &[u8] = b"p cnf ";
+use cnf::literals::Literal;
 
 /// Whether a text of `len` bytes finds room from `at` on, in a slice of `room` bytes.
 fn fits(room: usize, at: usize, len: usize) -> bool
@@ -56,7 +53,13 @@ pub fn write_clause(out: &mut [u8], at: usize, clause: &[Literal]) -> Result<usi
 }
 
 /// Writes a word and two numbers as a line.
-fn write_pair(out: &mut [u8], at: usize, word: &[u8], first: u64, second: u64) -> Result<usize, WriteFault>
+fn write_pair(
+    out: &mut [u8],
+    at: usize,
+    word: &[u8],
+    first: u64,
+    second: u64,
+) -> Result<usize, WriteFault>
     requires { ⌜ length (now word) ≤ 8 ⌝ }
     ensures { λ r. ⌜ Writes (now (out .entry)) at (pairLine (now (word .entry)) first second) r (now (out .exit)) ⌝ }
 {
@@ -67,30 +70,40 @@ fn write_pair(out: &mut [u8], at: usize, word: &[u8], first: u64, second: u64) -
 }
 
 /// Writes the heading line of a formula: `p cnf`, how many variables and how many clauses.
-pub fn write_heading(out: &mut [u8], at: usize, variables: u64, clauses: u64) -> Result<usize, WriteFault>
+pub fn write_heading(
+    out: &mut [u8],
+    at: usize,
+    variables: u64,
+    clauses: u64,
+) -> Result<usize, WriteFault>
     ensures { λ r. ⌜ Writes (now (out .entry)) at (headingLine variables clauses) r (now (out .exit)) ⌝ }
 {
     write_pair(out, at, HEADING, variables, clauses)
 }
 
 /// Writes the line of a refusal: `refused`, its number and its place.
-pub fn write_refusal(out: &mut [u8], at: usize, number: u8, place: usize) -> Result<usize, WriteFault>
+pub fn write_refusal(
+    out: &mut [u8],
+    at: usize,
+    number: u8,
+    place: usize,
+) -> Result<usize, WriteFault>
     ensures { λ r. ⌜ Writes (now (out .entry)) at (refusalLine number place) r (now (out .exit)) ⌝ }
 {
     write_pair(out, at, b"refused ", number as u64, place as u64)
 }
 
 /// Writes a formula: its heading line, and then each clause's line.
-pub fn write_formula(out: &mut [u8], at: usize, variables: u16, clauses: &[Vec<Literal>]) -> Result<usize, WriteFault>
+pub fn write_formula(
+    out: &mut [u8],
+    at: usize,
+    variables: u16,
+    clauses: &[Vec<Literal>],
+) -> Result<usize, WriteFault>
     ensures { λ r. ⌜ Writes (now (out .entry)) at (formulaText variables (map vec-items (now (clauses .entry)))) r (now (out .exit)) ⌝ }
 {
-    let Some(room) = room::after_clauses(out.len(), clauses) else {
-        return Err(WriteFault::NoRoom);
-    };
-    let count = clauses.len() as u64;
-    if !fits(room, at, room::pair_len(HEADING, variables as u64, count)) {
-        return Err(WriteFault::NoRoom);
+    match room::after_formula(out.len(), variables, clauses) {
+        Some(last) if at <= last => Ok(puts::put_formula(out, at, variables, clauses)),
+        _ => Err(WriteFault::NoRoom),
     }
-    let next = puts::put_pair(out, at, HEADING, variables as u64, count);
-    Ok(puts::put_clauses(out, next, clauses))
 }

@@ -21,4 +21,4 @@ put-byte-requires c κs = omega (arith, length-pair (c .args .word .now) (c .arg
 pub returns : need.returns
 returns c =
     puts-then (omega arith) (puts-then (omega arith) (puts-then (omega arith) (puts-then (omega arith)
-        (c .put-bytes-next .ensures) (c .put-number-next .ensures)) (c .put-byte-next .ensures)) (c .put-number-next-2 .ensures)) (c .put-byte .ensures)
+    (c .put-bytes-next .ensures) (c .put-number-next .ensures)) (c .put-byte-next .ensures)) (c .put-number-next-2 .ensures)) (c .put-byte .ensures)
