@@ -6,3 +6,4 @@ pub mod Nexts
 pub mod Spoken
 pub mod Told
 pub mod Runs
+pub mod Covers

@@ -4,6 +4,7 @@ ghost use Prim.Native.Nat.{ℕ, _+_, _-_, _*_, _<_, _≤_};
 ghost use lib.ListN.{length, getD, take, drop};
 ghost use Rattle.words.specs.Lexis.{shape};
 ghost use Rattle.words.specs.Texts.{wordsOf, nextOf, restOf};
+ghost use Rattle.words.specs.Runs.{Parts};
 ghost use Rattle.words.specs.Reading.{shapeOf, shown, left, extent};
 use crate::lexis::is_number;
 use crate::lexis::run;
@@ -29,6 +30,7 @@ impl<'a> Words<'a> {
     pub fn new(text: &'a [u8]) -> Words<'a>
         ensures words { λ r. ⌜ left r ≡ wordsOf (now (text .entry)) ⌝ }
         ensures extent { λ r. ⌜ extent r ≡ length (now (text .entry)) ⌝ }
+        ensures parts { λ r. ⌜ Parts (now (text .entry)) (left r) ⌝ }
     {
         Words { text, at: 0 }
     }
