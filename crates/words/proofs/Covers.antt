@@ -127,35 +127,35 @@ covers (suc k) m p (b ∷ bs) (suc i) w h low high =
 covers zero m p (b ∷ bs) zero w h low high =
     ⊎-elim
     (λ passed.
-        ap (λ ws. covered ws (p + 0)) (cond-true (passes m b) _ _ passed)
-        ∙ uncovered (wordsPast 0 (after m b) (suc p) bs) (p + 0) (suc p + 0) (places 0 (after m b) (suc p) bs) (omega arith)
-        ∙ sym (want-passed m b passed))
+    ap (λ ws. covered ws (p + 0)) (cond-true (passes m b) _ _ passed)
+    ∙ uncovered (wordsPast 0 (after m b) (suc p) bs) (p + 0) (suc p + 0) (places 0 (after m b) (suc p) bs) (omega arith)
+    ∙ sym (want-passed m b passed))
     (λ stopped.
-        ap (λ ws. covered ws (p + 0)) (cond-false (passes m b) _ _ stopped)
-        ∙ or-left _ _ (and-from _ _ (le-leb p (p + 0) (omega arith)) (lt-ltb (p + 0) (endOf (here p b bs)) (omega (arith, end-is p b bs))))
-        ∙ sym (want-stopped m b stopped))
+    ap (λ ws. covered ws (p + 0)) (cond-false (passes m b) _ _ stopped)
+    ∙ or-left _ _ (and-from _ _ (le-leb p (p + 0) (omega arith)) (lt-ltb (p + 0) (endOf (here p b bs)) (omega (arith, end-is p b bs))))
+    ∙ sym (want-stopped m b stopped))
     (cases-bool (passes m b))
 covers zero m p (b ∷ bs) (suc i) w h low high =
     let n = leading inner bs in
     let shift : p + suc i ≡ suc p + i = omega arith in
     ⊎-elim
     (λ passed.
-        ap (λ ws. covered ws (p + suc i)) (cond-true (passes m b) _ _ passed)
-        ∙ ap (covered (wordsPast 0 (after m b) (suc p) bs)) shift
-        ∙ covers 0 (after m b) (suc p) bs i (λ z. absurd (omega arith)) (omega arith) (omega arith) (omega arith))
+    ap (λ ws. covered ws (p + suc i)) (cond-true (passes m b) _ _ passed)
+    ∙ ap (covered (wordsPast 0 (after m b) (suc p) bs)) shift
+    ∙ covers 0 (after m b) (suc p) bs i (λ z. absurd (omega arith)) (omega arith) (omega arith) (omega arith))
     (λ stopped.
-        let mode = stopped-within m b stopped in
-        ap (λ ws. covered ws (p + suc i)) (cond-false (passes m b) _ _ stopped)
-        ∙ ⊎-elim
-        (λ inside.
-            or-left _ _ (and-from _ _ (le-leb p (p + suc i) (omega arith)) (lt-ltb (p + suc i) (endOf (here p b bs)) (omega (arith, end-is p b bs))))
-            ∙ sym (ap (λ m. wanted m bs i) mode ∙ front-wanted bs i inside))
-        (λ behind.
-            ap (λ t. t || covered (wordsPast n Within (suc p) bs) (p + suc i)) (and-right (leb p (p + suc i)) _ (le-ltb (p + suc i) (endOf (here p b bs)) (omega (arith, end-is p b bs))))
-            ∙ ap (covered (wordsPast n Within (suc p) bs)) shift
-            ∙ covers n Within (suc p) bs i (λ _. refl) (omega arith) behind (omega arith)
-            ∙ ap (λ m. wanted m bs i) (sym mode))
-        (cases-lt i n))
+    let mode = stopped-within m b stopped in
+    ap (λ ws. covered ws (p + suc i)) (cond-false (passes m b) _ _ stopped)
+    ∙ ⊎-elim
+    (λ inside.
+    or-left _ _ (and-from _ _ (le-leb p (p + suc i) (omega arith)) (lt-ltb (p + suc i) (endOf (here p b bs)) (omega (arith, end-is p b bs))))
+    ∙ sym (ap (λ m. wanted m bs i) mode ∙ front-wanted bs i inside))
+    (λ behind.
+    ap (λ t. t || covered (wordsPast n Within (suc p) bs) (p + suc i)) (and-right (leb p (p + suc i)) _ (le-ltb (p + suc i) (endOf (here p b bs)) (omega (arith, end-is p b bs))))
+    ∙ ap (covered (wordsPast n Within (suc p) bs)) shift
+    ∙ covers n Within (suc p) bs i (λ _. refl) (omega arith) behind (omega arith)
+    ∙ ap (λ m. wanted m bs i) (sym mode))
+    (cases-lt i n))
     (cases-bool (passes m b))
 
 -- one byte more
@@ -191,9 +191,9 @@ lined-step text s i h other =
     let c = getD text s 0 in
     ⊎-elim
     (λ same.
-        ap (λ m. after m b) (cond-true (eqb s i) Fresh _ (eq-eqb s i same))
-        ∙ ap (λ m. cond (eqb b 99) Comment m) (cond-false (eqb b 10) _ _ other)
-        ∙ ap (λ j. cond (eqb (getD text j 0) 99) Comment Within) (sym same))
+    ap (λ m. after m b) (cond-true (eqb s i) Fresh _ (eq-eqb s i same))
+    ∙ ap (λ m. cond (eqb b 99) Comment m) (cond-false (eqb b 10) _ _ other)
+    ∙ ap (λ j. cond (eqb (getD text j 0) 99) Comment Within) (sym same))
     (λ apart. ap (λ m. after m b) (cond-false (eqb s i) Fresh _ (ne-eqb s i apart)) ∙ after-other (eqb c 99) b other)
     (cases-eq s i)
     ∙ sym (cond-false (eqb s (suc i)) Fresh _ (ne-eqb s (suc i) (λ q. omega arith)))
@@ -207,12 +207,12 @@ mode-is text (suc i) h =
     ∙ ap (λ m. after m b) (mode-is text i (omega arith))
     ∙ ⊎-elim
     (λ line.
-        after-line _ b (eqb-true b 10 line)
-        ∙ sym (cond-true (eqb (suc i) (suc i)) Fresh _ (eq-eqb (suc i) (suc i) refl))
-        ∙ ap (λ r. lined r (suc i) (getD text r 0)) (sym (cond-true (eqb b 10) (suc i) s line)))
+    after-line _ b (eqb-true b 10 line)
+    ∙ sym (cond-true (eqb (suc i) (suc i)) Fresh _ (eq-eqb (suc i) (suc i) refl))
+    ∙ ap (λ r. lined r (suc i) (getD text r 0)) (sym (cond-true (eqb b 10) (suc i) s line)))
     (λ other.
-        lined-step text s i (start-le text i) other
-        ∙ ap (λ r. lined r (suc i) (getD text r 0)) (sym (cond-false (eqb b 10) (suc i) s other)))
+    lined-step text s i (start-le text i) other
+    ∙ ap (λ r. lined r (suc i) (getD text r 0)) (sym (cond-false (eqb b 10) (suc i) s other)))
     (cases-bool (eqb b 10))
 
 commented-is : (text : List ℕ) (i : ℕ) → i ≤ length text → opens (modeAt Fresh text i) (getD text i 0) ≡ commented text i

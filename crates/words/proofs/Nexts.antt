@@ -59,10 +59,10 @@ module _ (text : List ℕ) (at : ℕ) (fits : at ≤ length text) where
   goes-on =
       ⊎-elim
       (λ none.
-          let short : leading inner (drop begin text) ≡ 0 = omega arith in
-          let gone : spoken ≡ end = ap (λ k. shape (take k (drop begin text))) short in
-          let far : length text ≤ stop = omega (arith, at-end gone) in
-          ap (wordsFrom (startAt stop) stop) (drop-all stop text far) ∙ from-none (startAt stop) stop ∙ sym (none-behind gone))
+      let short : leading inner (drop begin text) ≡ 0 = omega arith in
+      let gone : spoken ≡ end = ap (λ k. shape (take k (drop begin text))) short in
+      let far : length text ≤ stop = omega (arith, at-end gone) in
+      ap (wordsFrom (startAt stop) stop) (drop-all stop text far) ∙ from-none (startAt stop) stop ∙ sym (none-behind gone))
       (λ some. ap (λ m. wordsFrom m stop (drop stop text)) (cond-false _ _ _ (ne-eqb stop 0 some)))
       (cases-eq stop 0)
 

@@ -1,5 +1,5 @@
 -- What a caller learns of the words that a reader gives. Assumes nothing.
-use mathlib.Core.Path.{_≡_, refl, sym, ap, _∙_}
+use mathlib.Core.Path.{_≡_, refl, sym, ap, subst, _∙_}
 use mathlib.Core.Bool.{Bool, true, false, cond}
 use mathlib.Core.List.{List, [], _∷_}
 use Prim.Native.Nat.{ℕ, zero, suc}
@@ -49,21 +49,25 @@ told-rest [] h = tt
 told-rest (a ∷ ws) h = h .1
 
 -- a name that comes next is the first word
-pub next-name : (n : ℕ) (ws : List At) (w : List ℕ) (p : ℕ) → record { word = name w; place = p } ≡ nextOf n ws → ws ≡ record { word = name w; place = p } ∷ restOf ws
-next-name n [] w p e = let q : name w ≡ end = ap (λ a. a .word) e in let z : _≡_ {A = ℕ} 0 1 = cc in absurd (omega arith)
-next-name n (a ∷ ws) w p e = ap (λ x. x ∷ ws) (sym e)
+pub next-name : (n : ℕ) (ws : List At) (a : At) (w : List ℕ) → a ≡ nextOf n ws → a .word ≡ name w → ws ≡ a ∷ restOf ws
+next-name n [] a w e is = let q : name w ≡ end = sym is ∙ ap (λ x. x .word) e in let z : _≡_ {A = ℕ} 0 1 = cc in absurd (omega arith)
+next-name n (b ∷ ws) a w e is = ap (λ x. x ∷ ws) (sym e)
 
 -- so is a number
-pub next-number : (n : ℕ) (ws : List At) (w : List ℕ) (p : ℕ) → record { word = number w; place = p } ≡ nextOf n ws → ws ≡ record { word = number w; place = p } ∷ restOf ws
-next-number n [] w p e = let q : number w ≡ end = ap (λ a. a .word) e in let z : _≡_ {A = ℕ} 0 1 = cc in absurd (omega arith)
-next-number n (a ∷ ws) w p e = ap (λ x. x ∷ ws) (sym e)
+pub next-number : (n : ℕ) (ws : List At) (a : At) (w : List ℕ) → a ≡ nextOf n ws → a .word ≡ number w → ws ≡ a ∷ restOf ws
+next-number n [] a w e is = let q : number w ≡ end = sym is ∙ ap (λ x. x .word) e in let z : _≡_ {A = ℕ} 0 1 = cc in absurd (omega arith)
+next-number n (b ∷ ws) a w e is = ap (λ x. x ∷ ws) (sym e)
+
+-- what is told of a word is told of its shape
+told-as : (a b : At) (s : Shape) → a ≡ b → a .word ≡ s → Told b → Told (record { word = s; place = 0 })
+told-as a b s e is h = subst (λ t. Told (record { word = t; place = 0 })) (ap (λ x. x .word) (sym e) ∙ is) h
 
 -- its bytes are a numeral
-pub next-numeral : (n : ℕ) (ws : List At) (w : List ℕ) (p : ℕ) → All Told ws → record { word = number w; place = p } ≡ nextOf n ws → numeral w ≡ true
-next-numeral n [] w p h e = let q : number w ≡ end = ap (λ a. a .word) e in let z : _≡_ {A = ℕ} 0 1 = cc in absurd (omega arith)
-next-numeral n (a ∷ ws) w p h e = rw (sym e) at (h .0)
+pub next-numeral : (n : ℕ) (ws : List At) (a : At) (w : List ℕ) → All Told ws → a ≡ nextOf n ws → a .word ≡ number w → numeral w ≡ true
+next-numeral n [] a w h e is = let q : number w ≡ end = sym is ∙ ap (λ x. x .word) e in let z : _≡_ {A = ℕ} 0 1 = cc in absurd (omega arith)
+next-numeral n (b ∷ ws) a w h e is = told-as a b (number w) e is (h .0)
 
 -- where the end comes next, no word is left, and the place is the text's length
-pub next-end : (n : ℕ) (ws : List At) (p : ℕ) → All Told ws → record { word = end; place = p } ≡ nextOf n ws → (ws ≡ []) × (p ≡ n)
-next-end n [] p h e = (refl, ap (λ a. a .place) e)
-next-end n (a ∷ ws) p h e = absurd (rw (sym e) at (h .0))
+pub next-end : (n : ℕ) (ws : List At) (a : At) → All Told ws → a ≡ nextOf n ws → a .word ≡ end → (ws ≡ []) × (a .place ≡ n)
+next-end n [] a h e is = (refl, ap (λ x. x .place) e)
+next-end n (b ∷ ws) a h e is = absurd (told-as a b end e is (h .0))

@@ -27,8 +27,8 @@ held top n ds =
     ⊎-elim
     (λ below. let same : min n top ≡ n = omega arith in ap (λ k. min (reads-on k ds) top) same)
     (λ above.
-        let same : min n top ≡ top = omega arith in
-        omega (arith, ap (λ k. min (reads-on k ds) top) same, grows top ds, grows n ds))
+    let same : min n top ≡ top = omega arith in
+    omega (arith, ap (λ k. min (reads-on k ds) top) same, grows top ds, grows n ds))
     (cases-lt n top)
 
 -- one digit more, each step held down to top
