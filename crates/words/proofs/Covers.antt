@@ -6,8 +6,8 @@ use mathlib.Core.Logic.{⊎-elim}
 use Prim.Native.Nat.{ℕ, zero, suc, _+_, _≤_, _<_}
 use native.Mathlib.Numerals.{one-add}
 use native.Mathlib.Omega.{arith}
-use lib.Dec.{eqb, leb, ltb}
-use lib.ListN.{length, getD, take, drop}
+use lib.Dec.{eqb, leb}
+use lib.ListN.{length, getD}
 use Rattle.std.specs.shelf.Lists.{leading, All}
 use Rattle.std.proofs.shelf.Elements.{all-weaker}
 use Rattle.std.proofs.shelf.Tests.{cond-true, cond-false, cond-both, cases-bool, cases-lt, cases-eq, eq-eqb, ne-eqb, eqb-true, le-leb, lt-leb, lt-ltb, le-ltb, and-from, and-left, and-right, or-parts, or-left, or-from, not-from-true, not-from-false, not-true, true≢false}
@@ -16,7 +16,6 @@ use Rattle.words.specs.declared.lexis.Mode.the-variants.{Fresh, Within, Commen
 use Rattle.words.specs.Lexis.{blank, inner, passes, after, shape}
 use Rattle.words.specs.Texts.{At, front, wordsPast, wordsFrom, wordsOf}
 use Rattle.words.specs.Runs.{endOf, lineStart, commented, covered, Ordered, Parts}
-use Rattle.words.proofs.Walks.{stops-inner}
 use Rattle.words.proofs.Runs.{bytes-shape, length-front, stand}
 
 -- the word that begins at p

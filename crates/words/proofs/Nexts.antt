@@ -1,16 +1,14 @@
 -- What is left of a text's words behind the next one. Assumes nothing.
 use mathlib.Core.Path.{_≡_, refl, sym, ap, _∙_}
-use mathlib.Core.Bool.{true, false}
-use mathlib.Core.List.{List, [], _∷_}
+use mathlib.Core.List.{List, []}
 use mathlib.Core.Logic.{⊎-elim}
-use Prim.Native.Nat.{ℕ, zero, suc, _+_, _-_, _≤_, _<_}
+use Prim.Native.Nat.{ℕ, _+_, _-_, _≤_}
 use native.Mathlib.Omega.{arith}
 use lib.ListN.{length, take, drop, length-drop}
 use Rattle.std.specs.shelf.Lists.{leading}
 use Rattle.std.proofs.shelf.Lists.{drop-drop, drop-all}
 use Rattle.std.proofs.shelf.Tests.{cond-false, cases-eq, ne-eqb}
-use Rattle.words.specs.declared.lexis.Mode.{Mode}
-use Rattle.words.specs.declared.lexis.Mode.the-variants.{Fresh, Within}
+use Rattle.words.specs.declared.lexis.Mode.the-variants.{Within}
 use Rattle.words.specs.Lexis.{inner, gap, startAt, Shape, name, number, end, shape}
 use Rattle.words.specs.Texts.{At, front, wordsFrom, nextOf, restOf}
 use Rattle.words.proofs.Walks.{from-none, from-gap, from-here, given, gap-end}

@@ -3,7 +3,7 @@ use mathlib.Core.Path.{_≡_, refl, sym, ap, _∙_}
 use mathlib.Core.Bool.{Bool, true, false, cond}
 use mathlib.Core.List.{List, [], _∷_}
 use mathlib.Core.Logic.{⊎-elim}
-use Prim.Native.Nat.{ℕ, zero, suc, _+_, _-_, _≤_, _<_}
+use Prim.Native.Nat.{ℕ, zero, suc, _+_, _<_}
 use native.Mathlib.Numerals.{one-add, add-one}
 use native.Mathlib.Omega.{arith}
 use lib.ListN.{length, getD, take, drop}
@@ -12,9 +12,9 @@ use Rattle.std.proofs.shelf.Lists.{drop-drop, getD-drop, length-take-le}
 use Rattle.std.proofs.shelf.Sums.{leading-le-length}
 use Rattle.std.proofs.shelf.Tests.{cond-true, cond-false, cond-both, cases-bool}
 use Rattle.words.specs.declared.lexis.Mode.{Mode}
-use Rattle.words.specs.declared.lexis.Mode.the-variants.{Fresh, Within}
-use Rattle.words.specs.Lexis.{inner, passes, after, numeral, Shape, name, number, end, shape}
-use Rattle.words.specs.Texts.{At, front, wordsPast, wordsFrom}
+use Rattle.words.specs.declared.lexis.Mode.the-variants.{Within}
+use Rattle.words.specs.Lexis.{inner, passes, after, numeral, Shape, name, number, shape}
+use Rattle.words.specs.Texts.{front, wordsPast, wordsFrom}
 use Rattle.words.specs.Runs.{bytesOf, Stands}
 use Rattle.words.proofs.Walks.{stops-inner}
 

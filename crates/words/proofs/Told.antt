@@ -4,7 +4,6 @@ use mathlib.Core.Bool.{Bool, true, false, cond}
 use mathlib.Core.List.{List, [], _∷_}
 use Prim.Native.Nat.{ℕ, zero, suc}
 use native.Mathlib.Omega.{arith}
-use lib.ListN.{length}
 use Rattle.std.specs.shelf.Lists.{leading, All}
 use Rattle.std.proofs.shelf.Tests.{cond-both}
 use Rattle.words.specs.declared.lexis.Mode.{Mode}

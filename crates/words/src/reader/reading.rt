@@ -1,7 +1,6 @@
 //! What a reader of words does.
 ghost use mathlib.Core.Path.{_≡_};
-ghost use Prim.Native.Nat.{ℕ, _+_, _-_, _*_, _<_, _≤_};
-ghost use lib.ListN.{length, getD, take, drop};
+ghost use lib.ListN.{length};
 ghost use Rattle.words.specs.Lexis.{shape};
 ghost use Rattle.words.specs.Texts.{wordsOf, nextOf, restOf};
 ghost use Rattle.words.specs.Runs.{Parts};
