@@ -4,4 +4,6 @@ pub mod Values
 pub mod Walks
 pub mod Nexts
 pub mod Spoken
+pub mod Told
 pub mod Runs
+pub mod Covers

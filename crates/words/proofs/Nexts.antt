@@ -1,16 +1,14 @@
 -- What is left of a text's words behind the next one. Assumes nothing.
 use mathlib.Core.Path.{_≡_, refl, sym, ap, _∙_}
-use mathlib.Core.Bool.{true, false}
-use mathlib.Core.List.{List, [], _∷_}
+use mathlib.Core.List.{List, []}
 use mathlib.Core.Logic.{⊎-elim}
-use Prim.Native.Nat.{ℕ, zero, suc, _+_, _-_, _≤_, _<_}
+use Prim.Native.Nat.{ℕ, _+_, _-_, _≤_}
 use native.Mathlib.Omega.{arith}
 use lib.ListN.{length, take, drop, length-drop}
 use Rattle.std.specs.shelf.Lists.{leading}
 use Rattle.std.proofs.shelf.Lists.{drop-drop, drop-all}
 use Rattle.std.proofs.shelf.Tests.{cond-false, cases-eq, ne-eqb}
-use Rattle.words.specs.declared.lexis.Mode.{Mode}
-use Rattle.words.specs.declared.lexis.Mode.the-variants.{Fresh, Within}
+use Rattle.words.specs.declared.lexis.Mode.the-variants.{Within}
 use Rattle.words.specs.Lexis.{inner, gap, startAt, Shape, name, number, end, shape}
 use Rattle.words.specs.Texts.{At, front, wordsFrom, nextOf, restOf}
 use Rattle.words.proofs.Walks.{from-none, from-gap, from-here, given, gap-end}
@@ -59,10 +57,10 @@ module _ (text : List ℕ) (at : ℕ) (fits : at ≤ length text) where
   goes-on =
       ⊎-elim
       (λ none.
-          let short : leading inner (drop begin text) ≡ 0 = omega arith in
-          let gone : spoken ≡ end = ap (λ k. shape (take k (drop begin text))) short in
-          let far : length text ≤ stop = omega (arith, at-end gone) in
-          ap (wordsFrom (startAt stop) stop) (drop-all stop text far) ∙ from-none (startAt stop) stop ∙ sym (none-behind gone))
+      let short : leading inner (drop begin text) ≡ 0 = omega arith in
+      let gone : spoken ≡ end = ap (λ k. shape (take k (drop begin text))) short in
+      let far : length text ≤ stop = omega (arith, at-end gone) in
+      ap (wordsFrom (startAt stop) stop) (drop-all stop text far) ∙ from-none (startAt stop) stop ∙ sym (none-behind gone))
       (λ some. ap (λ m. wordsFrom m stop (drop stop text)) (cond-false _ _ _ (ne-eqb stop 0 some)))
       (cases-eq stop 0)
 

@@ -3,21 +3,18 @@ use mathlib.Core.Path.{_≡_, refl, sym, ap, _∙_}
 use mathlib.Core.Bool.{Bool, true, false, cond}
 use mathlib.Core.List.{List, [], _∷_}
 use mathlib.Core.Logic.{⊎-elim}
-use Prim.Native.Nat.{ℕ, zero, suc, _+_, _-_, _≤_, _<_}
+use Prim.Native.Nat.{ℕ, zero, suc, _+_, _<_}
 use native.Mathlib.Numerals.{one-add, add-one}
 use native.Mathlib.Omega.{arith}
 use lib.ListN.{length, getD, take, drop}
 use Rattle.std.specs.shelf.Lists.{leading, All}
-use Rattle.std.proofs.shelf.Elements.{all-weaker}
 use Rattle.std.proofs.shelf.Lists.{drop-drop, getD-drop, length-take-le}
 use Rattle.std.proofs.shelf.Sums.{leading-le-length}
 use Rattle.std.proofs.shelf.Tests.{cond-true, cond-false, cond-both, cases-bool}
 use Rattle.words.specs.declared.lexis.Mode.{Mode}
-use Rattle.words.specs.declared.lexis.Mode.the-variants.{Fresh, Within}
-use Rattle.words.specs.declared.reader.Words.{Words}
-use Rattle.words.specs.Lexis.{inner, passes, after, numeral, Shape, name, number, end, shape}
-use Rattle.words.specs.Texts.{At, front, wordsPast, wordsFrom, nextOf, restOf}
-use Rattle.words.specs.Reading.{left}
+use Rattle.words.specs.declared.lexis.Mode.the-variants.{Within}
+use Rattle.words.specs.Lexis.{inner, passes, after, numeral, Shape, name, number, shape}
+use Rattle.words.specs.Texts.{front, wordsPast, wordsFrom}
 use Rattle.words.specs.Runs.{bytesOf, Stands}
 use Rattle.words.proofs.Walks.{stops-inner}
 
@@ -81,41 +78,3 @@ stand-past text zero m p (b ∷ bs) e =
 pub stand : (text : List ℕ) (m : Mode) (p : ℕ) → All (Stands text) (wordsFrom m p (drop p text))
 unfolding wordsFrom
 stand text m p = stand-past text 0 m p (drop p text) refl
-
--- a number's bytes are a numeral
-pub shape-numeral : (bs w : List ℕ) → shape bs ≡ number w → numeral w ≡ true
-shape-numeral [] w e = let z : _≡_ {A = ℕ} 0 1 = cc in absurd (omega arith)
-shape-numeral (b ∷ bs) w e = go (numeral (b ∷ bs)) refl e
-  where
-    go : (t : Bool) → numeral (b ∷ bs) ≡ t → cond t (number (b ∷ bs)) (name (b ∷ bs)) ≡ number w → numeral w ≡ true
-    go true is e = let same : w ≡ b ∷ bs = cc in ap numeral same ∙ is
-    go false is e = let z : _≡_ {A = ℕ} 0 1 = cc in absurd (omega arith)
-
--- a word is a number just where its bytes are one
-abbrev pub Told : At → Type 0
-Told a = (a .word ≡ shape (bytesOf (a .word)))
-
-told-past : (k : ℕ) (m : Mode) (p : ℕ) (bs : List ℕ) → All Told (wordsPast k m p bs)
-unfolding wordsPast
-told-past k m p [] = tt
-told-past (suc k) m p (b ∷ bs) = told-past k Within (suc p) bs
-told-past zero m p (b ∷ bs) =
-    cond-both (passes m b) _ _ (All Told) (λ passed. told-past 0 (after m b) (suc p) bs)
-    (λ stopped. (ap shape (sym (bytes-shape b (front bs))), told-past (leading inner bs) Within (suc p) bs))
-
-pub told-from : (m : Mode) (p : ℕ) (bs : List ℕ) → All Told (wordsFrom m p bs)
-unfolding wordsFrom
-told-from m p bs = told-past 0 m p bs
-
-pub told-left : (r : Words) → All Told (left r)
-unfolding left
-told-left r = told-from _ _ _
-
-pub told-rest : (ws : List At) → All Told ws → All Told (restOf ws)
-told-rest [] h = tt
-told-rest (a ∷ ws) h = h .1
-
--- the next word's bytes are a numeral where it is a number
-pub told-number : (n : ℕ) (ws : List At) (w : List ℕ) → All Told ws → nextOf n ws .word ≡ number w → numeral w ≡ true
-told-number n [] w h e = let z : _≡_ {A = ℕ} 0 1 = cc in absurd (omega arith)
-told-number n (a ∷ ws) w h e = shape-numeral (bytesOf (a .word)) w (sym (h .0) ∙ e)

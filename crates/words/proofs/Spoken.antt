@@ -1,6 +1,6 @@
 -- What a text that is written word by word reads as. Assumes nothing.
-use mathlib.Core.Path.{_≡_, refl, sym, ap, _∙_}
-use mathlib.Core.Bool.{Bool, true, false, cond}
+use mathlib.Core.Path.{_≡_, refl, ap, _∙_}
+use mathlib.Core.Bool.{true, false}
 use mathlib.Core.List.{List, [], _∷_, _++_}
 use Prim.Native.Nat.{ℕ, zero, suc, _+_, _^_, _≤_, _<_}
 use native.Mathlib.Numerals.{one-add}
@@ -12,15 +12,15 @@ use Rattle.std.specs.Written.{decimal}
 use Rattle.std.specs.shelf.Lists.{leading, All}
 use Rattle.std.specs.shelf.Text.{allDigits}
 use Rattle.std.proofs.shelf.Lists.{take-at, drop-at}
-use Rattle.std.proofs.shelf.Tests.{cond-true, cond-false, le-leb, ne-eqb, and-from, and-parts, or-left, leb-true, false≢true}
+use Rattle.std.proofs.shelf.Tests.{cond-true, cond-false, le-leb, ne-eqb, and-from, and-right, and-parts, or-left, leb-true, false≢true}
 use Rattle.std.proofs.shelf.Ways.{tells}
 use Rattle.std.proofs.shelf.Numerals.{tells-allDigits}
 use Rattle.std.proofs.shelf.Decimals.{decimal-some, first-decimal, digits-decimal, value-decimal, decimal-digit}
 use Rattle.words.specs.declared.lexis.Mode.{Mode}
 use Rattle.words.specs.declared.lexis.Mode.the-variants.{Fresh, Within}
-use Rattle.words.specs.Lexis.{blank, inner, passes, after, gap, plain, natural, numeral, Shape, number, shape}
+use Rattle.words.specs.Lexis.{inner, passes, gap, plain, natural, numeral, isZero, number, shape}
 use Rattle.words.specs.Numbers.{value}
-use Rattle.words.specs.Texts.{At, front, wordsFrom}
+use Rattle.words.specs.Texts.{front, wordsFrom}
 use Rattle.words.proofs.Values.{own}
 use Rattle.words.proofs.Walks.{from-none, from-passed, from-word, from-gap, given}
 
@@ -138,3 +138,25 @@ decimal-spelled n fits = spelled-digits (decimal n) (digits-decimal own n fits) 
 -- .. and so it is with a minus ahead, unless the number is 0
 pub minus-spelled : (n : ℕ) → 0 < n → n < 2 ^ 64 → Spelled (45 ∷ decimal n)
 minus-spelled n some fits = spelled-minus (decimal n) (digits-decimal own n fits) (decimal-plain n some fits)
+
+-- `0` is the word that a number 0 is written as, and no other number is
+pub zero-is-zero : isZero (decimal 0) ≡ true
+zero-is-zero = ap isZero (decimal-digit 0 (omega arith))
+
+pub decimal-not-zero : (n : ℕ) → 0 < n → n < 2 ^ 64 → isZero (decimal n) ≡ false
+decimal-not-zero n some fits = and-right _ _ (ne-eqb (getD (decimal n) 0 0) 48 (λ q. omega (arith, first-decimal n some fits)))
+
+pub minus-not-zero : (ds : List ℕ) → isZero (45 ∷ ds) ≡ false
+minus-not-zero ds = and-right _ _ refl
+
+-- a minus is ahead of no number that is written without a sign
+digits-no-minus : (ds : List ℕ) → allDigits ds ≡ true → 0 < length ds → eqb (getD ds 0 0) 45 ≡ false
+digits-no-minus [] h some = absurd (omega arith)
+digits-no-minus (b ∷ bs) h some = let d = tells-allDigits .parts b bs h .0 in let low : 48 ≤ b = d .0 in ne-eqb b 45 (λ q. omega arith)
+
+pub decimal-no-minus : (n : ℕ) → n < 2 ^ 64 → eqb (getD (decimal n) 0 0) 45 ≡ false
+decimal-no-minus n fits = digits-no-minus (decimal n) (digits-decimal own n fits) (decimal-some n fits)
+
+-- a word that begins with a minus is no number without a sign
+pub minus-not-natural : (ds : List ℕ) → natural (45 ∷ ds) ≡ false
+minus-not-natural ds = refl

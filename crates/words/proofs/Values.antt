@@ -1,5 +1,5 @@
 -- On the number that digits write. Assumes nothing.
-use mathlib.Core.Path.{_≡_, refl, sym, ap, _∙_}
+use mathlib.Core.Path.{_≡_, sym, ap, _∙_}
 use mathlib.Core.Bool.{true}
 use mathlib.Core.Logic.{⊎-elim}
 use mathlib.Core.List.{List, [], _∷_}
@@ -27,8 +27,8 @@ held top n ds =
     ⊎-elim
     (λ below. let same : min n top ≡ n = omega arith in ap (λ k. min (reads-on k ds) top) same)
     (λ above.
-        let same : min n top ≡ top = omega arith in
-        omega (arith, ap (λ k. min (reads-on k ds) top) same, grows top ds, grows n ds))
+    let same : min n top ≡ top = omega arith in
+    omega (arith, ap (λ k. min (reads-on k ds) top) same, grows top ds, grows n ds))
     (cases-lt n top)
 
 -- one digit more, each step held down to top

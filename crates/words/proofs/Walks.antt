@@ -1,9 +1,9 @@
 -- How the list of a text's words unfolds. Assumes nothing.
 use mathlib.Core.Path.{_≡_, refl, sym, ap, _∙_}
-use mathlib.Core.Bool.{Bool, true, false, cond, not}
+use mathlib.Core.Bool.{Bool, true, false, cond}
 use mathlib.Core.List.{List, [], _∷_}
 use mathlib.Core.Logic.{⊎-elim}
-use Prim.Native.Nat.{ℕ, zero, suc, _+_, _-_, _≤_, _<_}
+use Prim.Native.Nat.{ℕ, zero, suc, _+_}
 use native.Mathlib.Numerals.{one-add}
 use native.Mathlib.Omega.{arith}
 use lib.ListN.{length, take, drop}
@@ -74,18 +74,18 @@ from-gap m p [] = from-none m p
 from-gap m p (b ∷ bs) =
     ⊎-elim
     (λ passed.
-        let g = gap (after m b) bs in
-        let same : suc p + g ≡ p + suc g = omega arith in
-        from-passed m p b bs passed
-        ∙ from-gap (after m b) (suc p) bs
-        ∙ ap (λ q. from-here q (drop g bs)) same
-        ∙ ap (λ k. from-here (p + k) (drop k (b ∷ bs))) (sym (cond-true (passes m b) _ _ passed ∙ one-add g)))
+    let g = gap (after m b) bs in
+    let same : suc p + g ≡ p + suc g = omega arith in
+    from-passed m p b bs passed
+    ∙ from-gap (after m b) (suc p) bs
+    ∙ ap (λ q. from-here q (drop g bs)) same
+    ∙ ap (λ k. from-here (p + k) (drop k (b ∷ bs))) (sym (cond-true (passes m b) _ _ passed ∙ one-add g)))
     (λ stopped.
-        let same : p ≡ p + 0 = omega arith in
-        from-word m p b bs stopped
-        ∙ sym (here-inner p b bs (stops-inner m b stopped))
-        ∙ ap (λ q. from-here q (b ∷ bs)) same
-        ∙ ap (λ k. from-here (p + k) (drop k (b ∷ bs))) (sym (cond-false (passes m b) (1 + gap (after m b) bs) 0 stopped)))
+    let same : p ≡ p + 0 = omega arith in
+    from-word m p b bs stopped
+    ∙ sym (here-inner p b bs (stops-inner m b stopped))
+    ∙ ap (λ q. from-here q (b ∷ bs)) same
+    ∙ ap (λ k. from-here (p + k) (drop k (b ∷ bs))) (sym (cond-false (passes m b) (1 + gap (after m b) bs) 0 stopped)))
     (cases-bool (passes m b))
 
 pub word-not-end : (b : ℕ) (bs : List ℕ) → shape (b ∷ bs) ≡ end → ⊥
@@ -104,10 +104,10 @@ gap-end m [] e = refl
 gap-end m (b ∷ bs) e =
     ⊎-elim
     (λ passed.
-        let g = cond-true (passes m b) _ _ passed ∙ one-add (gap (after m b) bs) in
-        g ∙ ap suc (gap-end (after m b) bs (sym (ap (λ k. shape (front (drop k (b ∷ bs)))) g) ∙ e)))
+    let g = cond-true (passes m b) _ _ passed ∙ one-add (gap (after m b) bs) in
+    g ∙ ap suc (gap-end (after m b) bs (sym (ap (λ k. shape (front (drop k (b ∷ bs)))) g) ∙ e)))
     (λ stopped.
-        let g = cond-false (passes m b) (1 + gap (after m b) bs) 0 stopped in
-        let w = front-more b bs (stops-inner m b stopped) in
-        absurd (word-not-end b (front bs) (sym (ap (λ k. shape (front (drop k (b ∷ bs)))) g ∙ ap shape w) ∙ e)))
+    let g = cond-false (passes m b) (1 + gap (after m b) bs) 0 stopped in
+    let w = front-more b bs (stops-inner m b stopped) in
+    absurd (word-not-end b (front bs) (sym (ap (λ k. shape (front (drop k (b ∷ bs)))) g ∙ ap shape w) ∙ e)))
     (cases-bool (passes m b))

@@ -1,8 +1,8 @@
 //! How a text falls into words. Spaces, tabs, carriage returns and line feeds part the words. A line whose first
 //! byte is `c` is a comment and is passed over whole; a line feed alone ends a line.
 ghost use mathlib.Core.Path.{_≡_};
-ghost use Prim.Native.Nat.{ℕ, _+_, _-_, _*_, _<_, _≤_};
-ghost use lib.ListN.{length, getD, take, drop};
+ghost use Prim.Native.Nat.{_+_, _<_, _≤_};
+ghost use lib.ListN.{length, drop};
 ghost use Rattle.std.specs.shelf.Lists.{leading};
 ghost use Rattle.std.specs.shelf.Text.{allDigits};
 ghost use Rattle.words.specs.Lexis.{blank, inner, passes, after, gap, startAt, plain, natural, numeral, isZero};

@@ -1,7 +1,6 @@
 //! The number that digits write.
 ghost use mathlib.Core.Path.{_≡_};
-ghost use Prim.Native.Nat.{ℕ, _+_, _-_, _*_, _^_, _<_, _≤_, min};
-ghost use lib.ListN.{length, getD, take, drop};
+ghost use Prim.Native.Nat.{min};
 ghost use Rattle.words.specs.Numbers.{value};
 
 /// The number that the digits write, or the highest that 64 bits hold where it is larger.

@@ -2,6 +2,7 @@
 ghost use Prim.Native.Nat.{_≤_};
 ghost use lib.ListN.{length};
 ghost use denote.Ref.{now};
+
 mod reading;
 
 /// A word of a text, whose bytes are a part of the text, or the text's end.

@@ -1,9 +1,9 @@
 //! What a reader of words does.
 ghost use mathlib.Core.Path.{_≡_};
-ghost use Prim.Native.Nat.{ℕ, _+_, _-_, _*_, _<_, _≤_};
-ghost use lib.ListN.{length, getD, take, drop};
+ghost use lib.ListN.{length};
 ghost use Rattle.words.specs.Lexis.{shape};
 ghost use Rattle.words.specs.Texts.{wordsOf, nextOf, restOf};
+ghost use Rattle.words.specs.Runs.{Parts};
 ghost use Rattle.words.specs.Reading.{shapeOf, shown, left, extent};
 use crate::lexis::is_number;
 use crate::lexis::run;
@@ -29,6 +29,7 @@ impl<'a> Words<'a> {
     pub fn new(text: &'a [u8]) -> Words<'a>
         ensures words { λ r. ⌜ left r ≡ wordsOf (now (text .entry)) ⌝ }
         ensures extent { λ r. ⌜ extent r ≡ length (now (text .entry)) ⌝ }
+        ensures parts { λ r. ⌜ Parts (now (text .entry)) (left r) ⌝ }
     {
         Words { text, at: 0 }
     }
@@ -52,34 +53,33 @@ mod tests {
     use super::*;
     use std::test::*;
 
-    fn is_first(text: &[u8], wanted: Word, place: usize) -> bool {
+    // Whether the first word is a number, how long it is and where it stands.
+    fn outline(text: &[u8]) -> (bool, usize, usize) {
         let first = Words::new(text).next();
-        let same = match (first.word, wanted) {
-            (Word::Name(a), Word::Name(b)) => a == b,
-            (Word::Number(a), Word::Number(b)) => a == b,
-            (Word::End, Word::End) => true,
-            _ => false,
-        };
-        same && first.place == place
+        match first.word {
+            Word::Name(w) => (false, w.len(), first.place),
+            Word::Number(w) => (true, w.len(), first.place),
+            Word::End => (false, 0, first.place),
+        }
     }
 
     #[test]
     fn first_words() -> Result<(), Fail> {
-        for (text, word, place) in [
-            (b"".as_slice(), Word::End, 0),
-            (b"c all\r of it", Word::End, 12),
-            (b"cnf 3 5\np 1", Word::Name(b"p"), 8),
-            (b" c 1", Word::Name(b"c"), 1),
-            (b"\t\r\nc\n-7\r1", Word::Number(b"-7"), 5),
-            (b"\xff\0 1", Word::Name(b"\xff\0"), 0),
-            (b"0", Word::Number(b"0"), 0),
-            (b"-0", Word::Name(b"-0"), 0),
-            (b"01 ", Word::Name(b"01"), 0),
-            (b"+1", Word::Name(b"+1"), 0),
-            (b"-", Word::Name(b"-"), 0),
-            (b"99999999999999999999", Word::Number(b"99999999999999999999"), 0),
+        for (text, outlined) in [
+            (b"".as_slice(), (false, 0, 0)),
+            (b"c all\r of it", (false, 0, 12)),
+            (b"cnf 3 5\np 1", (false, 1, 8)),
+            (b" c 1", (false, 1, 1)),
+            (b"\t\r\nc\n-7\r1", (true, 2, 5)),
+            (b"\xff\0 1", (false, 2, 0)),
+            (b"0", (true, 1, 0)),
+            (b"-0", (false, 2, 0)),
+            (b"01 ", (false, 2, 0)),
+            (b"+1", (false, 2, 0)),
+            (b"-", (false, 1, 0)),
+            (b"99999999999999999999\n", (true, 20, 0)),
         ] {
-            check(is_first(text, word, place))?;
+            check(outline(text) == outlined)?;
         }
         Ok(())
     }
