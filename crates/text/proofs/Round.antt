@@ -1,54 +1,37 @@
 -- A formula in standard form, once written, reads back as itself.
 use mathlib.Core.Path.{_≡_, refl, sym, ap, subst, _∙_}
-use mathlib.Core.Bool.{Bool, true, false, cond, not, _&&_, _||_}
+use mathlib.Core.Bool.{Bool, true, false, cond}
 use mathlib.Core.List.{List, [], _∷_, _++_, append-assoc, List·Memᴰ·head as here, List·Memᴰ·tail as there, List·Memᴰ·not-nil}
-use mathlib.Core.Logic.{_⊎_, inl, inr, ⊎-elim}
-use Prim.Native.Nat.{ℕ, zero, suc, _+_, _-_, _^_, _≤_, _<_, min}
+use mathlib.Core.Logic.{_⊎_, inl, inr}
+use Prim.Native.Nat.{ℕ, suc, _+_, _^_, _≤_, _<_, min}
 use native.Mathlib.Omega.{arith}
-use lib.Chars.{codes}
-use lib.Dec.{eqb, ltb, leb}
+use lib.Dec.{eqb, ltb}
 use lib.ListN.{length, getD, take, drop}
 use Rattle.std.specs.Joined.{joined}
 use Rattle.std.specs.Written.{decimal}
 use Rattle.std.specs.shelf.Lists.{All}
 use Rattle.std.specs.declared.result.Result.{Result}
 use Rattle.std.specs.declared.result.Result.the-variants.{Ok, Err}
-use Rattle.std.proofs.shelf.Tests.{cond-true, cond-false, and-parts, and-left, or-cases, or-from, leb-true, eqb-true, eq-eqb, ne-eqb, le-ltb, false≢true, both-ways, cases-bool}
-use Rattle.std.proofs.shelf.Lists.{append-nil}
+use Rattle.std.proofs.shelf.Tests.{cond-true, cond-false, or-from, ne-eqb, le-ltb}
+use Rattle.std.proofs.shelf.Lists.{append-nil, take-at}
 use Rattle.cnf.specs.declared.literals.Literal.{Literal}
-use Rattle.cnf.specs.Literals.{earlier}
-use Rattle.cnf.specs.Order.{inserted}
 use Rattle.cnf.specs.Clauses.{Clause, _∈_, Rising, Within, IsClause}
 use Rattle.cnf.specs.Arranging.{Arrangement, outside, names, joinedBy}
 use Rattle.cnf.proofs.Arranging.{inserted-last, names-not, in-push}
 use Rattle.words.specs.declared.lexis.Mode.{Mode}
 use Rattle.words.specs.declared.lexis.Mode.the-variants.{Fresh, Within as InLine, Comment}
-use Rattle.words.specs.Lexis.{Shape, name, number, end, shape, passes, inner, natural, plain, isZero}
-use Rattle.words.specs.Numbers.{value}
-use Rattle.words.specs.Texts.{At, wordsFrom, wordsOf}
-use Rattle.words.proofs.Spoken.{Spelled, spoken-none, spoken-space, spoken-line, spoken-word, decimal-natural, decimal-value, decimal-spelled, minus-spelled}
-use Rattle.lines.specs.Texts.{literalText, literalWord, clauseLine, headingLine, formulaText}
+use Rattle.words.specs.Lexis.{Shape, number, passes, natural, isZero}
+use Rattle.words.specs.Texts.{At, wordsFrom}
+use Rattle.words.proofs.Spoken.{Spelled, spoken-none, spoken-space, spoken-line, spoken-word, decimal-natural, decimal-value, decimal-spelled, minus-spelled, decimal-not-zero, minus-not-zero, decimal-no-minus}
+use Rattle.lines.specs.Texts.{literalText, literalWord, clauseLine, formulaText}
 use Rattle.text.specs.declared.faults.TextFault.the-variants.{Variables}
 use Rattle.text.specs.Formulas.{State, heading, variable-count, before, format, variables, clauses, between, inside, Moved, moves, moved, capped, counted, literalOf, Formula′, Read, withClause, follows, reads, formulaOf}
-use Rattle.text.specs.Round.{Standard}
-
--- the first byte of a number without a sign is no minus
-natural-first : (w : List ℕ) → natural w ≡ true → eqb (getD w 0 0) 45 ≡ false
-natural-first [] h = absurd (false≢true h)
-natural-first (b ∷ bs) h =
-    ⊎-elim
-    (λ p. let low = leb-true 49 b (and-parts (leb 49 b) _ p .0) in ne-eqb b 45 (λ e. omega arith))
-    (λ p. let is = eqb-true b 48 (and-parts (eqb b 48) _ p .0) in ne-eqb b 45 (λ e. omega arith))
-    (or-cases (plain (b ∷ bs)) _ h)
-
--- the word 0 has the value 0
-zero-value : (w : List ℕ) → isZero w ≡ true → value w ≡ 0
-zero-value [] h = absurd (false≢true h)
-zero-value (b ∷ []) h =
-    let is : b ≡ 48 = eqb-true b 48 h in ap (λ c. value (c ∷ [])) is
-zero-value (b ∷ c ∷ bs) h = 
-    let long = eqb-true (length (b ∷ c ∷ bs)) 1 (and-parts (eqb (length (b ∷ c ∷ bs)) 1) _ h .0) in
-    absurd (omega arith)
+use Rattle.lines.specs.declared.faults.WriteFault.{WriteFault}
+use Rattle.lines.specs.Writes.{Writes}
+use Rattle.lines.proofs.Chains.{writes-ok}
+use Rattle.text.specs.Standard.{textOf}
+use Rattle.text.specs.Round.{Standard, StandardRead, ReadsBack}
+use Rattle.text.proofs.Readings.{formula-standard}
 
 -- what is written of a literal
 pub record Written (l : Literal) : Type 0 where
@@ -71,32 +54,22 @@ written l low high = go (l .negated) refl
     same : capped (decimal v) ≡ v
     same = let e = decimal-value v fits in omega arith
 
-    some : isZero (decimal v) ≡ false
-    some = ⊎-elim (λ z. absurd (let e = decimal-value v fits in let o = zero-value (decimal v) z in omega arith)) (λ e. e) (cases-bool (isZero (decimal v)))
-
     go : (b : Bool) → l .negated ≡ b → Written l
     go true e =
         let text : literalText l ≡ 45 ∷ decimal v = ap (λ (n : Bool). digitsOr n (decimal v)) e in
         record {
           spelled = subst Spelled (sym text) (minus-spelled v (omega arith) fits);
-          not-zero = ap isZero text ∙ minus (decimal v);
+          not-zero = ap isZero text ∙ minus-not-zero (decimal v);
           reads-as = ap literalOf text ∙ ap (λ (n : ℕ). record { variable = n; negated = true }) same ∙ ap (λ (n : Bool). record { variable = v; negated = n }) (sym e);
         }
-      where
-        minus : (ds : List ℕ) → isZero (45 ∷ ds) ≡ false
-        minus ds = and-no (eqb (length (45 ∷ ds)) 1)
-          where
-            and-no : (b : Bool) → (b && false) ≡ false
-            and-no true = refl
-            and-no false = refl
     go false e =
         let text : literalText l ≡ decimal v = ap (λ (n : Bool). digitsOr n (decimal v)) e in
         record {
           spelled = subst Spelled (sym text) (decimal-spelled v fits);
-          not-zero = ap isZero text ∙ some;
+          not-zero = ap isZero text ∙ decimal-not-zero v (omega arith) fits;
           reads-as =
               ap literalOf text
-              ∙ cond-false (eqb (getD (decimal v) 0 0) 45) (record { variable = capped (drop 1 (decimal v)); negated = true }) (record { variable = capped (decimal v); negated = false }) (natural-first (decimal v) (decimal-natural v fits))
+              ∙ cond-false (eqb (getD (decimal v) 0 0) 45) (record { variable = capped (drop 1 (decimal v)); negated = true }) (record { variable = capped (decimal v); negated = false }) (decimal-no-minus v fits)
               ∙ ap (λ (n : ℕ). record { variable = n; negated = false }) same
               ∙ ap (λ (n : Bool). record { variable = v; negated = n }) (sym e);
         }
@@ -246,3 +219,19 @@ reads-back f std fits =
     line : (a b c : List ℕ)
         → 112 ∷ 32 ∷ 99 ∷ 110 ∷ 102 ∷ 32 ∷ ((((a ++ 32 ∷ []) ++ b) ++ 10 ∷ []) ++ c) ≡ 112 ∷ 32 ∷ 99 ∷ 110 ∷ 102 ∷ 32 ∷ (a ++ (32 ∷ (b ++ (10 ∷ c))))
     line a b c = simp append-assoc
+
+-- what a writer left of a formula reads back
+pub written-back : (f : Formula′) (out : List ℕ) (r : Result ℕ WriteFault) (out′ : List ℕ) → length (f .all) < 2 ^ 64
+    → Writes out 0 (textOf f) r out′ → ReadsBack f r out′
+written-back f out (Err fault) out′ fits w = tt
+written-back f out (Ok n) out′ fits w = λ std.
+    let puts = writes-ok w .1 in
+    let end : length (textOf f) ≡ n = let e = puts .next in omega arith in
+    ap (λ (l : List ℕ). formulaOf (take n l)) (puts .after)
+    ∙ ap formulaOf (take-at (textOf f) (drop (0 + length (textOf f)) out) n end)
+    ∙ reads-back f std fits
+
+-- what was printed of a text reads as the text does
+pub printed-again : (text : List ℕ) (f : Formula′) (n : ℕ) (out : List ℕ) → formulaOf text ≡ Ok f → ReadsBack f (Ok n) out
+    → (g : Formula′) → formulaOf text ≡ Ok g → formulaOf (take n out) ≡ Ok g
+printed-again text f n out e back g h = back (subst StandardRead e (formula-standard text)) ∙ sym e ∙ h

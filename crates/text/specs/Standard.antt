@@ -12,9 +12,13 @@ use Rattle.text.specs.declared.standard.PrintFault.the-variants.{NoRoom, Memor
 use Rattle.text.specs.Faults.{numberOf, placeOf}
 use Rattle.text.specs.Formulas.{Formula′, Read, formulaOf}
 
+-- the text of a formula
+abbrev pub textOf : Formula′ → List ℕ
+textOf f = formulaText (f .highest) (f .all)
+
 -- a formula in standard form, or the line of its refusal
 abbrev pub printed : Read → List ℕ
-printed (Ok f) = formulaText (f .highest) (f .all)
+printed (Ok f) = textOf f
 printed (Err fault) = refusalLine (numberOf fault) (placeOf fault)
 
 -- the standard form of what a text reads as

@@ -1,7 +1,7 @@
 //! A formula in memory: read from a text, and written in standard form.
 ghost use mathlib.Core.Path.{_≡_};
 ghost use Rattle.text.specs.Formulas.{formulaOf};
-ghost use Rattle.text.specs.Memory.{formulaIn, ReadsAs};
+ghost use Rattle.text.specs.Memory.{ReadsAs};
 ghost use Rattle.text.specs.declared.memory.ReadFault.the-variants.{Text, Memory};
 use cnf::literals::Literal;
 use crate::faults::TextFault;

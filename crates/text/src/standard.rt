@@ -1,10 +1,10 @@
 //! The standard form of a formula: its heading, and its clauses with their literals by rising variable, one space
 //! between words, one line feed after every line.
 ghost use mathlib.Core.Path.{_≡_};
-ghost use Rattle.lines.specs.Texts.{formulaText};
 ghost use Rattle.lines.specs.Writes.{Writes};
 ghost use Rattle.text.specs.Memory.{formulaIn};
-ghost use Rattle.text.specs.Standard.{standardText, Prints};
+ghost use Rattle.text.specs.Standard.{textOf, standardText, Prints};
+ghost use Rattle.text.specs.Round.{ReadsBack, ReadsAgain};
 use crate::memory::Formula;
 use crate::memory::ReadFault;
 use crate::memory::read_formula;
@@ -31,12 +31,21 @@ pub impl From<WriteFault> for PrintFault as PrintFromWrite {
 
 ghost use Rattle.text.specs.declared.standard.PrintFault.the-variants.{NoRoom};
 
+/// Writes a formula at the start of `out`: its heading line, and then each clause's line.
+pub fn write_formula(out: &mut [u8], formula: &Formula) -> Result<usize, WriteFault>
+    ensures writes { λ r. ⌜ Writes (now (out .entry)) 0 (textOf (formulaIn (now (formula .entry)))) r (now (out .exit)) ⌝ }
+    ensures back { λ r. ⌜ ReadsBack (formulaIn (now (formula .entry))) r (now (out .exit)) ⌝ }
+{
+    writers::write_formula(out, 0, formula.variables, &formula.clauses)
+}
+
 /// Prints the standard form of the formula that a text reads as, or `refused`, the number and the place of its fault.
 pub fn print_standard(heap: Global, text: &[u8], out: &mut [u8]) -> Result<usize, PrintFault>
-    ensures { λ r. ⌜ Prints (now (out .entry)) (standardText (now (text .entry))) r (now (out .exit)) ⌝ }
+    ensures prints { λ r. ⌜ Prints (now (out .entry)) (standardText (now (text .entry))) r (now (out .exit)) ⌝ }
+    ensures again { λ r. ⌜ ReadsAgain (now (text .entry)) r (now (out .exit)) ⌝ }
 {
     let end = match read_formula(heap, text) {
-        Ok(formula) => writers::write_formula(out, 0, formula.variables, &formula.clauses)?,
+        Ok(formula) => write_formula(out, &formula)?,
         Err(ReadFault::Text(fault)) => writers::write_refusal(out, 0, fault.number(), fault.place())?,
         Err(ReadFault::Memory) => return Err(PrintFault::Memory),
     };
