@@ -169,8 +169,8 @@ clauses-read n v [] p few g = ap (reads n (between v 0)) (spoken-none Fresh p)
 clauses-read n v (c ∷ cs) p few g =
     ap (λ (l : List ℕ). reads n (between v (suc (length cs))) (wordsFrom Fresh p l)) (append-assoc (joined literalWord c) (48 ∷ 10 ∷ []) (joined clauseLine cs))
     ∙ clause-reads n v (length cs) (between v (suc (length cs))) Fresh few tt p [] c (joined clauseLine cs) (Ok (record { highest = v; all = cs })) (λ w q. refl)
-      (record { above = λ k l m o. absurd (List·Memᴰ·not-nil m); rising = g .0 .rising; within = g .0 .within })
-      (λ q. clauses-read n v cs q few (g .1))
+    (record { above = λ k l m o. absurd (List·Memᴰ·not-nil m); rising = g .0 .rising; within = g .0 .within })
+    (λ q. clauses-read n v cs q few (g .1))
 
 -- the heading line
 module _ (n v c : ℕ) (few : v ≤ 512) (fits : c < 2 ^ 64) (rest : List ℕ) where

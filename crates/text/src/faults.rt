@@ -22,10 +22,10 @@ pub enum TextFault {
 
 /// A text's fault carries the clause's fault whole.
 pub impl From<ClauseFault> for TextFault as TextFromClause {
-    ghost converts = { λ fault r. r ≡ Clause fault };
+    ghost converts = { λ whole r. r ≡ Clause whole };
 
-    fn from(fault: ClauseFault) -> TextFault {
-        TextFault::Clause(fault)
+    fn from(whole: ClauseFault) -> TextFault {
+        TextFault::Clause(whole)
     }
 }
 
@@ -48,7 +48,8 @@ impl TextFault {
         ensures { λ r. ⌜ r ≡ layerOf self ⌝ }
     {
         match self {
-            TextFault::Word { .. } | TextFault::Count { .. } | TextFault::Unfinished { .. } => Layer::Text,
+            TextFault::Word { .. } | TextFault::Count { .. } | TextFault::Unfinished { .. } =>
+                Layer::Text,
             TextFault::Clause(fault) => fault.layer(),
             TextFault::Variables => Layer::Job,
         }

@@ -46,7 +46,12 @@ pub fn print_standard(heap: Global, text: &[u8], out: &mut [u8]) -> Result<usize
 {
     let end = match read_formula(heap, text) {
         Ok(formula) => write_formula(out, &formula)?,
-        Err(ReadFault::Text(fault)) => writers::write_refusal(out, 0, fault.number(), fault.place())?,
+        Err(ReadFault::Text(fault)) => writers::write_refusal(
+            out,
+            0,
+            fault.number(),
+            fault.place(),
+        )?,
         Err(ReadFault::Memory) => return Err(PrintFault::Memory),
     };
     Ok(end)

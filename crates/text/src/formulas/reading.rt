@@ -12,14 +12,14 @@ ghost use Rattle.cnf.specs.Drafts.{outcome};
 ghost use Rattle.words.specs.Reading.{shapeOf};
 ghost use Rattle.std.specs.declared.result.Result.the-variants.{Ok};
 ghost use mathlib.Core.List.{[]};
-use cnf::drafts::Draft;
-use cnf::literals::Literal;
 use crate::faults::TextFault;
 use crate::faults::TextFromClause;
 use crate::formulas::Due;
 use crate::formulas::FormulaReader;
 use crate::formulas::Position;
 use crate::formulas::Step;
+use cnf::drafts::Draft;
+use cnf::literals::Literal;
 use words::lexis::is_unsigned;
 use words::lexis::is_zero;
 use words::numbers::value16;
@@ -168,8 +168,10 @@ impl<'a> FormulaReader<'a> {
         match (self.position, placed.word) {
             (Position::Before, Word::Name(b"p")) => self.go(Due::Format),
             (Position::Heading(Due::Format), Word::Name(b"cnf")) => self.go(Due::Variables),
-            (Position::Heading(Due::Variables), Word::Number(w)) if is_unsigned(w) => self.take_variables(w, place),
-            (Position::Heading(Due::Clauses), Word::Number(w)) if is_unsigned(w) => self.take_clauses(w),
+            (Position::Heading(Due::Variables), Word::Number(w)) if is_unsigned(w) =>
+                self.take_variables(w, place),
+            (Position::Heading(Due::Clauses), Word::Number(w)) if is_unsigned(w) =>
+                self.take_clauses(w),
             (Position::Between, word) => self.take_between(word, place),
             (Position::Inside, Word::Number(w)) => self.take_number(w, place),
             (Position::Inside, Word::End) => Err(TextFault::Unfinished { place }),

@@ -55,9 +55,9 @@ loop-clauses-again c =
     let e = ap (λ k. moves (stateOf now) (itemOf k now)) (sym (c .in-Clause .is)) ∙ told .takes .answer in
     let copy = c .in-Continue-from-slice .ensures tt .made .0 ∙ c .clause .ensures in
     let more =
-        ap (map vec-items) (c .in-Continue-push .ensures tt .items)
-        ∙ map-push vec-items all (c .in-Continue-from-slice .field-0)
-        ∙ ap (λ x. cs ++ x ∷ []) copy in
+    ap (map vec-items) (c .in-Continue-push .ensures tt .items)
+    ∙ map-push vec-items all (c .in-Continue-from-slice .field-0)
+    ∙ ap (λ x. cs ++ x ∷ []) copy in
     ap (λ l. withClauses l on) more
     ∙ sym (with-more cs d on)
     ∙ move-reads cs (extentOf was) (extentOf now) (stateOf was) (stateOf now) (wordsLeft was) (wordsLeft now) (clause d) (formulaOf (c .args .text .now)) e (told .extent) (told .words) (c .loop-clauses .inv)

@@ -19,7 +19,7 @@ returns c =
     let r = c .write-formula .result in
     let after = c .write-formula .last .out in
     let writes : Writes out 0 (textOf f) r after =
-        subst (λ l. Writes out 0 (formulaText (f .highest) (map vec-items l)) r after) (c .deref .ensures .value) (c .write-formula .ensures) in
+    subst (λ l. Writes out 0 (formulaText (f .highest) (map vec-items l)) r after) (c .deref .ensures .value) (c .write-formula .ensures) in
     let fits : length (f .all) < 2 ^ 64 =
-        omega (arith, length-map (vec-items (c .args .formula .now .clauses)) vec-items, c .deref .ensures .len, c .deref .ok .0) in
+    omega (arith, length-map (vec-items (c .args .formula .now .clauses)) vec-items, c .deref .ensures .len, c .deref .ok .0) in
     record { writes = writes; back = written-back f out r after fits writes }
