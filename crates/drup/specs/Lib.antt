@@ -1,0 +1,10 @@
+pub mod History
+pub mod Marks
+pub mod Forward
+pub mod WellFormed
+pub mod Propagating
+pub mod Backward
+pub mod Box
+pub mod Reading
+pub mod Agreement
+pub mod Laws

@@ -1,0 +1,72 @@
+//! The meaning of a checked proof, and the theorems that the box stands on. There is no running code here but small
+//! functions whose contracts name the theorems; the definitions are in `specs/`, the proofs in `proofs/`.
+use cnf::literals::Literal;
+
+/// The answer that the clause with this number forces a literal.
+#[derive(Clone, Copy)]
+pub struct Forced {
+    pub literal: Literal,
+    pub number: u16,
+}
+
+ghost use Rattle.drup.specs.Agreement.{Agreement, EveryCheckEnds};
+
+/// The box agrees with the forward check after every event of every run from a newly opened box.
+pub fn agreement() -> u8
+    ensures { λ _. ⌜ Agreement ⌝ }
+{
+    0
+}
+
+/// A check that is not turned down comes to an outcome, and where the forward check accepts, to a verdict.
+pub fn every_check_ends() -> u8
+    ensures { λ _. ⌜ EveryCheckEnds ⌝ }
+{
+    0
+}
+
+ghost use Rattle.drup.specs.Propagating.{PassingIsPropagation, PassingIsSound};
+
+/// A lemma passes exactly when unit propagation to its end, with the lemma's literals false, falsifies a live clause.
+pub fn passing_is_propagation() -> u8
+    ensures { λ _. ⌜ PassingIsPropagation ⌝ }
+{
+    0
+}
+
+/// A lemma that passes is implied by the live clauses.
+pub fn passing_is_sound() -> u8
+    ensures { λ _. ⌜ PassingIsSound ⌝ }
+{
+    0
+}
+
+ghost use Rattle.drup.specs.Laws.{AcceptanceRefutes, StrikeLaw, StepsFit, ClausesLive};
+
+/// What the forward check accepts has inputs that no assignment satisfies.
+pub fn acceptance_refutes() -> u8
+    ensures { λ _. ⌜ AcceptanceRefutes ⌝ }
+{
+    0
+}
+
+/// A strike strikes the highest live clause with its literals, and is turned down by 11 only where there is none.
+pub fn strike_hits_highest_live() -> u8
+    ensures { λ _. ⌜ StrikeLaw ⌝ }
+{
+    0
+}
+
+/// Every strike hits a live clause, and there are at most two steps to a clause place.
+pub fn steps_fit() -> u8
+    ensures { λ _. ⌜ StepsFit ⌝ }
+{
+    0
+}
+
+/// A clause lives from behind the step of its entry up to the step that strikes it, which is never at or before it.
+pub fn clauses_live() -> u8
+    ensures { λ _. ⌜ ClausesLive ⌝ }
+{
+    0
+}
