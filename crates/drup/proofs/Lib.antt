@@ -16,3 +16,6 @@ pub mod Going
 pub mod Reading
 pub mod Propagating
 pub mod Living
+pub mod Deciding
+pub mod Jobs
+pub mod Slips

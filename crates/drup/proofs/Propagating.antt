@@ -1,11 +1,11 @@
 -- Passing and unit propagation: a derivation is a run that falsifies a clause, and a run to its end misses no conflict.
 use mathlib.Core.Path.{_≡_, refl, sym, ap, subst}
 use mathlib.Core.Logic.{_↔_, inl, inr}
-use mathlib.Core.List.{List, [], _∷_, _++_, map, List·Memᴰ·tail as there}
+use mathlib.Core.List.{List, [], _∷_, _++_, map, Memᴰ·append-right}
 use Prim.Native.Nat.{ℕ}
 use Rattle.cnf.specs.declared.literals.Literal.{Literal}
 use Rattle.cnf.specs.Literals.{complement}
-use Rattle.cnf.specs.Clauses.{Clause, Within, _∈_}
+use Rattle.cnf.specs.Clauses.{Clause, Within}
 use Rattle.cnf.specs.Propagation.{Derivation, Forces}
 use Rattle.cnf.proofs.Derivations.{derives-before, passing-sound, saturated}
 use Rattle.drup.specs.declared.Forced.{Forced}
@@ -15,13 +15,10 @@ use Rattle.drup.specs.WellFormed.{Formed}
 use Rattle.drup.specs.Propagating.{EveryRunClashes, FoundByPropagation, PassingIsPropagation, PassingIsSound, Propagated, SomeRunClashes, SomeRunEnds}
 use Rattle.drup.specs.Backward.{Right, trail}
 use Rattle.drup.specs.Box.{calls}
+use Rattle.drup.specs.Jobs.{row}
 use Rattle.drup.proofs.WellFormed.{fed-well, opened-well, withdrawn}
 use Rattle.drup.proofs.Ending.{exhausts, live-within}
-
--- what was assumed stays on the trail
-under-run : (assumed forced : List Literal) (l : Literal) → l ∈ assumed → l ∈ (forced ++ assumed)
-under-run assumed [] l m = m
-under-run assumed (k ∷ forced) l m = there (under-run assumed forced l m)
+use Rattle.drup.proofs.Jobs.{by}
 
 module _ (s : Clause → Type 0) (assumed : List Literal) where
   -- what a derivation forces is a run
@@ -46,7 +43,7 @@ module _ (s : Clause → Type 0) (assumed : List Literal) where
   -- a run to its end falsifies a clause if anything can be derived
   derives-every : (row : List Clause) → Derivation s assumed row → EveryRunClashes s assumed
   derives-every row d forced p (inl clash) = clash
-  derives-every row d forced p (inr none) = saturated (forced ++ assumed) assumed row none (under-run assumed forced) d
+  derives-every row d forced p (inr none) = saturated (forced ++ assumed) assumed row none (λ l. Memᴰ·append-right forced) d
 
   -- where a run comes to its end, both are so
   found : (c : Clause) → map complement c ≡ assumed → SomeRunEnds s assumed → FoundByPropagation s c

@@ -9,13 +9,14 @@ use lib.ListN.{length}
 use Rattle.cnf.specs.declared.literals.Literal.{Literal}
 use Rattle.cnf.specs.Literals.{complement}
 use Rattle.cnf.specs.Clauses.{Clause, _∈_}
-use Rattle.cnf.specs.Propagation.{Derivation, Falsified, Forces, Lean, StandsIn}
+use Rattle.cnf.specs.Propagation.{Derivation, Falsified, Forces, Lean, Passes, StandsIn}
 use Rattle.cnf.proofs.Arranging.{all-cons}
 use Rattle.cnf.proofs.Complements.{complement-twice}
-use Rattle.cnf.proofs.Derivations.{lean-before, narrowed, saturated}
+use Rattle.cnf.proofs.Derivations.{lean-before, lean-derives, narrowed, saturated}
 use Rattle.drup.specs.declared.Forced.{Forced}
 use Rattle.drup.specs.History.{Live, LiveClause, Step, table, text}
 use Rattle.drup.specs.Backward.{Conflict, Nothing, Right, gathered, standsIn, trail}
+use Rattle.drup.specs.Jobs.{row}
 use Rattle.drup.proofs.Standing.{standsIn-false, standsIn-true}
 
 -- what was assumed stays on the trail
@@ -119,3 +120,11 @@ module _ (inputs : List Clause) (steps : List Step) (assumed : List Literal) whe
       (λ c l s f. nothing .none-forces (s .0) l (s .1) (subst (λ (x : Clause). Forces (trail assumed answers) x l) (sym (s .2)) f))
       (assumed-stays assumed answers) d in
       nothing .none-false (clash .1 .0) (clash .1 .1) (subst (Falsified (trail assumed answers)) (sym (clash .1 .2)) (clash .2))
+
+-- so a trial that ends in a conflict shows that the lemma passes
+pub conflict-passes :
+    (inputs : List Clause) (steps : List Step) (c : Clause) (answers : List Forced) (n : ℕ)
+    → Conflict inputs steps (map complement c) answers n → Passes (LiveClause inputs steps) c
+conflict-passes inputs steps c answers n conflict =
+    let row : List Clause = map (text (table inputs steps)) (gathered (text (table inputs steps)) answers (n ∷ [])) in
+    (row, lean-derives (LiveClause inputs steps) (map complement c) row (conflict-lean inputs steps (map complement c) answers n conflict))

@@ -8,3 +8,5 @@ pub mod Box
 pub mod Reading
 pub mod Agreement
 pub mod Laws
+pub mod Jobs
+pub mod Slips

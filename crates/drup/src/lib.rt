@@ -70,3 +70,42 @@ pub fn clauses_live() -> u8
 {
     0
 }
+
+ghost use Rattle.drup.specs.Jobs.{WorkedJobs};
+
+/// The jobs on file come to the outcomes that the rules give.
+pub fn worked_jobs() -> u8
+    ensures { λ _. ⌜ WorkedJobs ⌝ }
+{
+    0
+}
+
+ghost use Rattle.drup.specs.Slips.{RuleIsManner, TriedAtEnd, KeptEveryForced, ProvedItself};
+
+/// The check that the slips below part from, each by one choice, is the backward rule.
+pub fn slips_part_from_the_rule() -> u8
+    ensures { λ _. ⌜ RuleIsManner ⌝ }
+{
+    0
+}
+
+/// A check that tries lemmas over the clauses live at the end fails where the rule accepts.
+pub fn slip_tried_at_end() -> u8
+    ensures { λ _. ⌜ TriedAtEnd ⌝ }
+{
+    0
+}
+
+/// A check that keeps every forced clause keeps one that the rule never does.
+pub fn slip_kept_every_forced() -> u8
+    ensures { λ _. ⌜ KeptEveryForced ⌝ }
+{
+    0
+}
+
+/// A check that lets a lemma prove itself accepts where the rule never does.
+pub fn slip_proved_itself() -> u8
+    ensures { λ _. ⌜ ProvedItself ⌝ }
+{
+    0
+}
