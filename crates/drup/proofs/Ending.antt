@@ -125,8 +125,8 @@ comes-to v n q inputs (learned c ∷ earlier) so-far count w =
       | inl k ↦ elim (trial inputs earlier v (live-within v n q inputs earlier before) (map complement c)) [
             | inl t ↦
                 let r = on (withRow (conflictRow inputs earlier (t .0) (t .1)) so-far) (count + asked (t .0)) before in
-                (r .0, inr (inl (k, (t .0, t .1, t .2, r .1))))
-            | inr t ↦ (fails (suc (length earlier)) (count + asked (t .0)), inr (inr (k, (t .0, t .1, refl))))
+                (r .0, inr (inl (k, t .0, t .1, t .2, r .1)))
+            | inr t ↦ (fails (suc (length earlier)) (count + asked (t .0)), inr (inr (k, t .0, t .1, refl)))
           ]
     ]
 

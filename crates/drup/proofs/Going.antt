@@ -33,12 +33,12 @@ module _ (m : Machine) where
         pub past-conflict :
             (n : ℕ) → Conflict (m .inputs) earlier (map complement c) answers n
             → Stands earlier (withRow (conflictRow (m .inputs) earlier answers n) so-far) (count + asked answers)
-        past-conflict n right outcome b = s outcome (inr (inl (k, (answers, n, right, b))))
+        past-conflict n right outcome b = s outcome (inr (inl (k, answers, n, right, b)))
 
         pub at-nothing :
             Nothing (m .inputs) earlier (map complement c) answers
             → Checks m (fails (suc (length earlier)) (count + asked answers))
-        at-nothing right = s (fails (suc (length earlier)) (count + asked answers)) (inr (inr (k, (answers, right, refl))))
+        at-nothing right = s (fails (suc (length earlier)) (count + asked answers)) (inr (inr (k, answers, right, refl)))
 
     -- at the end
     pub at-end : Stands [] so-far count → Checks m (accepted so-far (report (m .inputs) so-far count))

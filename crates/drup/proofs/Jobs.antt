@@ -9,13 +9,14 @@ use lib.Dec.{eqb}
 use Rattle.std.proofs.shelf.Tests.{and-parts, eqb-true, or-cases}
 use Rattle.cnf.specs.declared.literals.Literal.{Literal}
 use Rattle.drup.specs.declared.Forced.{Forced}
+use Rattle.drup.specs.History.{Live, Step, table, text}
 use Rattle.drup.specs.Marks.{Marks, has, lone, marked}
 use Rattle.drup.specs.Forward.{Machine, withoutLast}
 use Rattle.drup.specs.Backward.{Report, Row, accepted}
 use Rattle.drup.specs.Box.{Checks}
 use Rattle.drup.specs.Jobs.{WorkedJobs, counts, jobA, jobB, jobC, jobD, jobE, keeping, machineOf, neg, pos, row}
 use Rattle.drup.proofs.Numbers.{at-most, same-marks}
-use Rattle.drup.proofs.Deciding.{live-conflict, live-nothing, true-in}
+use Rattle.drup.proofs.Deciding.{TrueIn, live-conflict, live-nothing, true-in}
 
 -- clause n forces l
 abbrev pub by : Literal → (n : ℕ) → Forced
@@ -70,66 +71,58 @@ kept-outcome ks empty rows r e f = λ i. accepted (record { kept = kept-are ks e
 job-a : Checks (machineOf jobA) (jobA .outcome)
 job-a =
     let m : Machine = machineOf jobA in
-    inr (inl (refl, (
-      by (pos 1) 3 ∷ by (pos 2) 6 ∷ [],
-      4,
-      live-conflict (m .inputs) (withoutLast (m .steps)) [] (by (pos 1) 3 ∷ by (pos 2) 6 ∷ []) 4 refl,
-      inl (refl, inr (inl (refl, (
-        by (pos 1) 1 ∷ [],
-        2,
-        live-conflict (m .inputs) [] (neg 2 ∷ []) (by (pos 1) 1 ∷ []) 2 refl,
-        kept-outcome (1 ∷ 2 ∷ 3 ∷ 4 ∷ 6 ∷ 8 ∷ []) 8 (row 6 (1 ∷ 2 ∷ []) ∷ row 8 (6 ∷ 3 ∷ 4 ∷ []) ∷ []) (counts 4 2 5 5) refl refl,
-      )))),
-    )))
+    let before : List Step = withoutLast (m .steps) in
+    let first : List Forced = by (pos 1) 3 ∷ by (pos 2) 6 ∷ [] in
+    let second : List Forced = by (pos 1) 1 ∷ [] in
+    let end =
+    kept-outcome (1 ∷ 2 ∷ 3 ∷ 4 ∷ 6 ∷ 8 ∷ []) 8 (row 6 (1 ∷ 2 ∷ []) ∷ row 8 (6 ∷ 3 ∷ 4 ∷ []) ∷ []) (counts 4 2 5 5) refl refl in
+    let at-lemma = inr (inl (refl, second, 2, live-conflict (m .inputs) [] (neg 2 ∷ []) second 2 refl, end)) in
+    inr (inl (refl, first, 4, live-conflict (m .inputs) before [] first 4 refl, inl (refl, at-lemma)))
 
 -- nothing is live
 pub job-b : Checks (machineOf jobB) (jobB .outcome)
 job-b =
-    inr (inr (refl, (
-      [],
-      live-nothing [] [] [] [] refl (λ n live. absurd (let h = live .entered in let k = live .numbered in omega arith)),
-      refl,
-    )))
+    inr (inr (refl, [], live-nothing [] [] [] [] refl none, refl))
+  where
+    none : (n : ℕ) → Live [] [] n → TrueIn [] (text [] n)
+    none n live = absurd (let h = live .entered in let k = live .numbered in omega arith)
 
 -- the empty clause is false
 job-c : Checks (machineOf jobC) (jobC .outcome)
 job-c =
-    inr (inl (refl, (
-      [],
-      1,
-      live-conflict ([] ∷ []) [] [] [] 1 refl,
-      kept-outcome (1 ∷ 2 ∷ []) 2 (row 2 (1 ∷ []) ∷ []) (counts 1 1 1 1) refl refl,
-    )))
+    let end = kept-outcome (1 ∷ 2 ∷ []) 2 (row 2 (1 ∷ []) ∷ []) (counts 1 1 1 1) refl refl in
+    inr (inl (refl, [], 1, live-conflict ([] ∷ []) [] [] [] 1 refl, end))
 
 -- the empty lemma: 3 forces 3, 5 forces -2, and 6 is false; the lemma 2: 1, live there, forces 1, and 2 is false
 job-d : Checks (machineOf jobD) (jobD .outcome)
 job-d =
     let m : Machine = machineOf jobD in
-    inr (inl (refl, (
-      by (neg 2) 5 ∷ by (pos 3) 3 ∷ [],
-      6,
-      live-conflict (m .inputs) (withoutLast (m .steps)) [] (by (neg 2) 5 ∷ by (pos 3) 3 ∷ []) 6 refl,
-      inr (inl (refl, (
-        by (pos 1) 1 ∷ [],
-        2,
-        live-conflict (m .inputs) [] (neg 2 ∷ []) (by (pos 1) 1 ∷ []) 2 refl,
-        kept-outcome (1 ∷ 2 ∷ 3 ∷ 5 ∷ 6 ∷ 7 ∷ []) 7 (row 6 (1 ∷ 2 ∷ []) ∷ row 7 (3 ∷ 5 ∷ 6 ∷ []) ∷ []) (counts 4 2 5 5) refl refl,
-      ))),
-    )))
+    let before : List Step = withoutLast (m .steps) in
+    let first : List Forced = by (neg 2) 5 ∷ by (pos 3) 3 ∷ [] in
+    let second : List Forced = by (pos 1) 1 ∷ [] in
+    let end =
+    kept-outcome (1 ∷ 2 ∷ 3 ∷ 5 ∷ 6 ∷ 7 ∷ []) 7 (row 6 (1 ∷ 2 ∷ []) ∷ row 7 (3 ∷ 5 ∷ 6 ∷ []) ∷ []) (counts 4 2 5 5) refl refl in
+    let at-lemma = inr (inl (refl, second, 2, live-conflict (m .inputs) [] (neg 2 ∷ []) second 2 refl, end)) in
+    inr (inl (refl, first, 6, live-conflict (m .inputs) before [] first 6 refl, at-lemma))
 
 -- the lemma forces 1, and then both clauses are true
 job-e : Checks (machineOf jobE) (jobE .outcome)
 job-e =
     let m : Machine = machineOf jobE in
-    inr (inr (refl, (
-      by (pos 1) 2 ∷ [],
-      live-nothing (m .inputs) (withoutLast (m .steps)) [] (by (pos 1) 2 ∷ []) refl
-          (λ n live. elim (at-most n 1 (live .entered)) [
-            | inl e ↦ rw e (true-in (pos 1 ∷ []) (pos 1 ∷ []) (pos 1) refl)
-            | inr h ↦ let e : n ≡ 1 = omega (arith, live .numbered) in rw e (true-in (pos 1 ∷ []) (pos 1 ∷ pos 2 ∷ []) (pos 1) refl)
-          ]),
-      refl,
-    )))
+    let before : List Step = withoutLast (m .steps) in
+    let answers : List Forced = by (pos 1) 2 ∷ [] in
+    inr (inr (refl, answers, live-nothing (m .inputs) before [] answers refl all-true, refl))
+  where
+    all-true :
+        (n : ℕ) → Live (machineOf jobE .inputs) (withoutLast (machineOf jobE .steps)) n
+        → TrueIn (pos 1 ∷ []) (text (table (machineOf jobE .inputs) (withoutLast (machineOf jobE .steps))) n)
+    all-true n live =
+        elim (at-most n 1 (live .entered)) [
+          | inl e ↦ rw e (true-in (pos 1 ∷ []) (pos 1 ∷ []) (pos 1) refl)
+          | inr h ↦
+              let e : n ≡ 1 = omega (arith, live .numbered) in
+              rw e (true-in (pos 1 ∷ []) (pos 1 ∷ pos 2 ∷ []) (pos 1) refl)
+        ]
 
 pub worked-jobs : WorkedJobs
 worked-jobs = ((job-a, (job-b, (job-c, (job-d, (job-e, tt))))), record { not-twice = refl; again = refl })

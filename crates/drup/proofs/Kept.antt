@@ -76,7 +76,7 @@ grown inputs (learned c ∷ earlier) so-far count v r (inl (out, b)) =
       kept-above = λ n h. g .kept-above n (omega arith);
       rows-new = λ row m. elim (g .rows-new row m) [ inl k ↦ inl k | inr h ↦ inr (omega arith) ];
     }
-grown inputs (learned c ∷ earlier) so-far count v r (inr (inl (k, (answers, n, right, b)))) =
+grown inputs (learned c ∷ earlier) so-far count v r (inr (inl (k, answers, n, right, b))) =
     let new : Row = conflictRow inputs earlier answers n in
     let g = grown inputs earlier (withRow new so-far) (count + asked answers) v r b in
     record {
@@ -94,7 +94,7 @@ grown inputs (learned c ∷ earlier) so-far count v r (inr (inl (k, (answers, n,
         | inr h ↦ inr (omega arith)
       ];
     }
-grown inputs (learned c ∷ earlier) so-far count v r (inr (inr (k, (answers, right, e)))) = accepted-not-fails e
+grown inputs (learned c ∷ earlier) so-far count v r (inr (inr (k, answers, right, e))) = accepted-not-fails e
 
 -- what is kept stays kept
 pub kept-stays :
@@ -116,12 +116,12 @@ in-order inputs (struck k ∷ earlier) so-far count v r b = in-order inputs earl
 in-order inputs (learned c ∷ earlier) so-far count v r (inl (out, b)) =
     let same = grown inputs earlier so-far count v r b .kept-above (nextNumber inputs earlier) (omega arith) in
     rw (same ∙ out) (in-order inputs earlier so-far count v r b)
-in-order inputs (learned c ∷ earlier) so-far count v r (inr (inl (k, (answers, n, right, b)))) =
+in-order inputs (learned c ∷ earlier) so-far count v r (inr (inl (k, answers, n, right, b))) =
     let more : Verdict = withRow (conflictRow inputs earlier answers n) so-far in
     let stays = kept-stays inputs earlier more (count + asked answers) v r b (nextNumber inputs earlier)
     (marked-stays (conflictRow inputs earlier answers n .antecedents) (so-far .kept) (nextNumber inputs earlier) k) in
     rw stays (in-order inputs earlier more (count + asked answers) v r b)
-in-order inputs (learned c ∷ earlier) so-far count v r (inr (inr (k, (answers, right, e)))) = accepted-not-fails e
+in-order inputs (learned c ∷ earlier) so-far count v r (inr (inr (k, answers, right, e))) = accepted-not-fails e
 
 module _ (highest places room : ℕ) (inputs : List Clause) (v : Verdict) (r : Report) where
   -- every kept lemma of these steps has its row
@@ -143,7 +143,7 @@ module _ (highest places room : ℕ) (inputs : List Clause) (v : Verdict) (r : R
         λ k. absurd (true≢false (sym k ∙ same ∙ out)),
         rows-of earlier so-far count (withdrawn highest places room inputs (learned c ∷ earlier) formed) (λ row m. let h = above row m in omega arith) b,
       )
-  rows-of (learned c ∷ earlier) so-far count formed above (inr (inl (k, (answers, n, right, b)))) =
+  rows-of (learned c ∷ earlier) so-far count formed above (inr (inl (k, answers, n, right, b))) =
       let before = withdrawn highest places room inputs (learned c ∷ earlier) formed in
       let new : Row = conflictRow inputs earlier answers n in
       let g = grown inputs earlier (withRow new so-far) (count + asked answers) v r b in (
@@ -161,7 +161,7 @@ module _ (highest places room : ℕ) (inputs : List Clause) (v : Verdict) (r : R
             (all-cons (λ row. length (table inputs earlier) < row .lemma-number) (omega arith) (λ row m. let h = above row m in omega arith))
             b,
       )
-  rows-of (learned c ∷ earlier) so-far count formed above (inr (inr (k, (answers, right, e)))) = accepted-not-fails e
+  rows-of (learned c ∷ earlier) so-far count formed above (inr (inr (k, answers, right, e))) = accepted-not-fails e
 
   -- the same, said of any lemma of the steps
   pub every-row :

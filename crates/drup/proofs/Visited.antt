@@ -162,10 +162,10 @@ module _ (m : Machine) where
       visited-all earlier so-far count verdict r (pass (struck n) earlier so-far count v) b
   visited-all (learned c ∷ earlier) so-far count verdict r v (inl (k, b)) =
       visited-all earlier so-far count verdict r (pass (learned c) earlier so-far count v) b
-  visited-all (learned c ∷ earlier) so-far count verdict r v (inr (inl (k, (answers, n, right, b)))) =
+  visited-all (learned c ∷ earlier) so-far count verdict r v (inr (inl (k, answers, n, right, b))) =
       visited-all earlier (withRow (conflictRow (m .inputs) earlier answers n) so-far) (count + asked answers)
       verdict r (keep c earlier so-far count answers n v k right) b
-  visited-all (learned c ∷ earlier) so-far count verdict r v (inr (inr (k, (answers, right, e)))) = accepted-not-fails e
+  visited-all (learned c ∷ earlier) so-far count verdict r v (inr (inr (k, answers, right, e))) = accepted-not-fails e
 
   -- a failing check has come to a lemma that is needed and does not pass
   fails-below :
@@ -176,10 +176,10 @@ module _ (m : Machine) where
       fails-below step total earlier so-far count (pass (struck n) earlier so-far count v) b
   fails-below step total (learned c ∷ earlier) so-far count v (inl (k, b)) =
       fails-below step total earlier so-far count (pass (learned c) earlier so-far count v) b
-  fails-below step total (learned c ∷ earlier) so-far count v (inr (inl (k, (answers, n, right, b)))) =
+  fails-below step total (learned c ∷ earlier) so-far count v (inr (inl (k, answers, n, right, b))) =
       fails-below step total earlier (withRow (conflictRow (m .inputs) earlier answers n) so-far) (count + asked answers)
       (keep c earlier so-far count answers n v k right) b
-  fails-below step total (learned c ∷ earlier) so-far count v (inr (inr (k, (answers, right, e)))) =
+  fails-below step total (learned c ∷ earlier) so-far count v (inr (inr (k, answers, right, e))) =
       let p : fails step total ≡ fails (suc (length earlier)) (count + asked answers) = e in
       let all : total ≡ count + asked answers = cc in
       let h = v .answered in

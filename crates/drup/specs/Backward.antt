@@ -125,9 +125,9 @@ Backward inputs (learned c ∷ earlier) so-far count outcome =
     ((so-far .kept (nextNumber inputs earlier) ≡ false) × Backward inputs earlier so-far count outcome)
     -- it is kept and tried, the complements of its literals assumed, and a conflict gives its row
     ⊎ ((so-far .kept (nextNumber inputs earlier) ≡ true)
-    × ((answers : List Forced) × (n : ℕ) × Conflict inputs earlier (map complement c) answers n
-    × Backward inputs earlier (withRow (conflictRow inputs earlier answers n) so-far) (count + asked answers) outcome))
+    × (answers : List Forced) × (n : ℕ) × Conflict inputs earlier (map complement c) answers n
+    × Backward inputs earlier (withRow (conflictRow inputs earlier answers n) so-far) (count + asked answers) outcome)
     -- or the trial ends in nothing, and the check fails at this step
     ⊎ ((so-far .kept (nextNumber inputs earlier) ≡ true)
-    × ((answers : List Forced) × Nothing inputs earlier (map complement c) answers
-    × (outcome ≡ fails (suc (length earlier)) (count + asked answers))))
+    × (answers : List Forced) × Nothing inputs earlier (map complement c) answers
+    × (outcome ≡ fails (suc (length earlier)) (count + asked answers)))

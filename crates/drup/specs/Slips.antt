@@ -10,7 +10,7 @@ use Rattle.cnf.specs.Literals.{complement}
 use Rattle.cnf.specs.Clauses.{Clause}
 use Rattle.drup.specs.declared.Forced.{Forced}
 use Rattle.drup.specs.History.{Step, learned, struck, table, nextNumber, text, isStruck, Live}
-use Rattle.drup.specs.Forward.{Machine, opened, clause, lemma, strike, fed}
+use Rattle.drup.specs.Forward.{Machine, opened, Call, clause, lemma, strike, fed}
 use Rattle.drup.specs.Backward.{ConflictOver, NothingOver, asked, gathered, Row, Verdict, withRow, Report, report, Outcome, accepted, fails}
 use Rattle.drup.specs.Box.{emptyKept, Checks}
 use Rattle.drup.specs.Jobs.{pos, neg}
@@ -66,14 +66,14 @@ BackwardIn manner inputs (struck n ∷ earlier) so-far count outcome = BackwardI
 BackwardIn manner inputs (learned c ∷ earlier) so-far count outcome =
     ((so-far .kept (nextNumber inputs earlier) ≡ false) × BackwardIn manner inputs earlier so-far count outcome)
     ⊎ ((so-far .kept (nextNumber inputs earlier) ≡ true)
-    × ((answers : List Forced) × (n : ℕ)
+    × (answers : List Forced) × (n : ℕ)
     × ConflictOver (manner .alive c earlier) (manner .texts c earlier) (map complement c) answers n
     × BackwardIn manner inputs earlier
       (withRow (record { lemma-number = nextNumber inputs earlier; antecedents = manner .rowOf (manner .texts c earlier) answers n }) so-far)
-      (count + asked answers) outcome))
+      (count + asked answers) outcome)
     ⊎ ((so-far .kept (nextNumber inputs earlier) ≡ true)
-    × ((answers : List Forced) × NothingOver (manner .alive c earlier) (manner .texts c earlier) (map complement c) answers
-    × (outcome ≡ fails (suc (length earlier)) (count + asked answers))))
+    × (answers : List Forced) × NothingOver (manner .alive c earlier) (manner .texts c earlier) (map complement c) answers
+    × (outcome ≡ fails (suc (length earlier)) (count + asked answers)))
 
 -- a check in this manner comes to an outcome
 abbrev pub ChecksIn : (Machine → Manner) → Machine → Outcome → Type 0
@@ -84,39 +84,54 @@ abbrev pub RuleIsManner : Type 0
 RuleIsManner = (m : Machine) (outcome : Outcome) → ChecksIn byRule m outcome ↔ Checks m outcome
 
 -- a clause is struck behind the lemma that needs it
-abbrev pub struckBehind : Machine
+abbrev pub struckBehind : List Call
 struckBehind =
-    fed (opened 2 5 5)
-    (lemma []
+    lemma []
     ∷ strike (pos 1 ∷ [])
     ∷ lemma (pos 2 ∷ [])
     ∷ clause (neg 2 ∷ [])
     ∷ clause (neg 1 ∷ pos 2 ∷ [])
     ∷ clause (pos 1 ∷ [])
-    ∷ [])
+    ∷ []
 
 -- the rule accepts, and with no right answers fails; the slip fails at the lemma
-pub record TriedAtEnd : Type 0 where
-  pub rule-accepts : (v : Verdict) × (r : Report) × Checks struckBehind (accepted v r)
-  pub rule-never-fails : (step answers : ℕ) → Checks struckBehind (fails step answers) → ⊥
-  pub slip-fails : ChecksIn liveAtEnd struckBehind (fails 1 4)
+pub record TriedAtEnd (m : Machine) : Type 0 where
+  pub rule-accepts : (v : Verdict) × (r : Report) × Checks m (accepted v r)
+  pub rule-never-fails : (step answers : ℕ) → Checks m (fails step answers) → ⊥
+  pub slip-fails : ChecksIn liveAtEnd m (fails 1 4)
 
 -- the first clause has nothing to do with the conflict
-abbrev pub oneUnneeded : Machine
-oneUnneeded = fed (opened 2 4 3) (lemma [] ∷ clause (neg 2 ∷ []) ∷ clause (pos 2 ∷ []) ∷ clause (pos 1 ∷ []) ∷ [])
+abbrev pub oneUnneeded : List Call
+oneUnneeded = lemma [] ∷ clause (neg 2 ∷ []) ∷ clause (pos 2 ∷ []) ∷ clause (pos 1 ∷ []) ∷ []
 
 -- the rule accepts, and with no right answers keeps the first clause; the slip keeps it
-pub record KeptEveryForced : Type 0 where
-  pub rule-accepts : (v : Verdict) × (r : Report) × Checks oneUnneeded (accepted v r)
-  pub rule-never-keeps : (v : Verdict) (r : Report) → Checks oneUnneeded (accepted v r) → v .kept 1 ≡ false
-  pub slip-keeps : (v : Verdict) × (r : Report) × ChecksIn everyForced oneUnneeded (accepted v r) × (v .kept 1 ≡ true)
+pub record KeptEveryForced (m : Machine) : Type 0 where
+  pub rule-accepts : (v : Verdict) × (r : Report) × Checks m (accepted v r)
+  pub rule-never-keeps : (v : Verdict) (r : Report) → Checks m (accepted v r) → v .kept 1 ≡ false
+  pub slip-keeps : (v : Verdict) × (r : Report) × ChecksIn everyForced m (accepted v r) × (v .kept 1 ≡ true)
 
 -- no clause at all
-abbrev pub noClause : Machine
-noClause = fed (opened 0 1 0) (lemma [] ∷ [])
+abbrev pub noClause : List Call
+noClause = lemma [] ∷ []
 
 -- the rule fails, and with no right answers accepts; the slip accepts
-pub record ProvedItself : Type 0 where
-  pub rule-fails : Checks noClause (fails 1 1)
-  pub rule-never-accepts : (v : Verdict) (r : Report) → Checks noClause (accepted v r) → ⊥
-  pub slip-accepts : (v : Verdict) × (r : Report) × ChecksIn itselfToo noClause (accepted v r)
+pub record ProvedItself (m : Machine) : Type 0 where
+  pub rule-fails : Checks m (fails 1 1)
+  pub rule-never-accepts : (v : Verdict) (r : Report) → Checks m (accepted v r) → ⊥
+  pub slip-accepts : (v : Verdict) × (r : Report) × ChecksIn itselfToo m (accepted v r)
+
+-- a slip shows on a job
+abbrev pub ShowsOn : (Machine → Type 0) → (variables : ℕ) → List Call → Type 0
+ShowsOn Slip variables calls = Slip (fed (opened variables 8 8) calls)
+
+-- trying a lemma over the clauses live at the end fails where the rule accepts
+abbrev pub TriedAtEndFails : Type 0
+TriedAtEndFails = ShowsOn TriedAtEnd 2 struckBehind
+
+-- keeping every forced clause keeps one that the rule never does
+abbrev pub EveryForcedKeepsMore : Type 0
+EveryForcedKeepsMore = ShowsOn KeptEveryForced 2 oneUnneeded
+
+-- letting a lemma prove itself accepts where the rule never does
+abbrev pub ItselfProvesAll : Type 0
+ItselfProvesAll = ShowsOn ProvedItself 0 noClause

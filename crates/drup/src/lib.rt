@@ -80,7 +80,7 @@ pub fn worked_jobs() -> u8
     0
 }
 
-ghost use Rattle.drup.specs.Slips.{RuleIsManner, TriedAtEnd, KeptEveryForced, ProvedItself};
+ghost use Rattle.drup.specs.Slips.{RuleIsManner, TriedAtEndFails, EveryForcedKeepsMore, ItselfProvesAll};
 
 /// The check that the slips below part from, each by one choice, is the backward rule.
 pub fn slips_part_from_the_rule() -> u8
@@ -91,21 +91,21 @@ pub fn slips_part_from_the_rule() -> u8
 
 /// A check that tries lemmas over the clauses live at the end fails where the rule accepts.
 pub fn slip_tried_at_end() -> u8
-    ensures { λ _. ⌜ TriedAtEnd ⌝ }
+    ensures { λ _. ⌜ TriedAtEndFails ⌝ }
 {
     0
 }
 
 /// A check that keeps every forced clause keeps one that the rule never does.
 pub fn slip_kept_every_forced() -> u8
-    ensures { λ _. ⌜ KeptEveryForced ⌝ }
+    ensures { λ _. ⌜ EveryForcedKeepsMore ⌝ }
 {
     0
 }
 
 /// A check that lets a lemma prove itself accepts where the rule never does.
 pub fn slip_proved_itself() -> u8
-    ensures { λ _. ⌜ ProvedItself ⌝ }
+    ensures { λ _. ⌜ ItselfProvesAll ⌝ }
 {
     0
 }
