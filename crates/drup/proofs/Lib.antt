@@ -19,3 +19,5 @@ pub mod Living
 pub mod Deciding
 pub mod Jobs
 pub mod Slips
+pub mod Entering
+pub mod Transfer

@@ -1,4 +1,4 @@
--- Laws of the forward machine after any calls: what a strike strikes, when clauses live, and how many steps there can be.
+-- Laws of the forward machine: what calls enter, take back and strike, when clauses live, and how many steps there can be.
 use mathlib.Core.Path.{_≡_}
 use mathlib.Core.Logic.{_⊎_, _↔_}
 use mathlib.Core.Bool.{cond}
@@ -7,9 +7,27 @@ use Prim.Native.Nat.{ℕ, suc, _*_, _≤_, _<_}
 use lib.Dec.{eqb}
 use lib.ListN.{length}
 use Rattle.cnf.specs.declared.literals.Literal.{Literal}
-use Rattle.cnf.specs.Clauses.{Clause, SameLiterals, Unsatisfiable}
+use Rattle.cnf.specs.Clauses.{Clause, IsClause, SameLiterals, Unsatisfiable}
 use Rattle.drup.specs.History.{Step, learned, struck, nextNumber, text, Live, Before}
-use Rattle.drup.specs.Forward.{Machine, clauses, opened, Call, strike, refused, withSteps, told, fed, Accepts}
+use Rattle.drup.specs.Forward.{Machine, clauses, opened, Call, clause, lemma, strike, withdraw, refused, withInput, withSteps, told, fed, Accepts}
+
+-- literals that make a clause: in range, no variable twice
+abbrev pub ClauseFrom : Machine → List Literal → Clause → Type 0
+ClauseFrom m ls c = IsClause (m .variables) c × SameLiterals c ls
+
+-- a clause or a lemma that is not turned down is entered with just its literals, by rising variable
+abbrev pub EntryLaw : Type 0
+EntryLaw =
+    (m : Machine) (ls : List Literal)
+    → (refused m (clause ls) ≡ 0 → (c : Clause) × ClauseFrom m ls c × (told m (clause ls) ≡ withInput m c))
+    × (refused m (lemma ls) ≡ 0 → (c : Clause) × ClauseFrom m ls c × (told m (lemma ls) ≡ withSteps m (learned c ∷ m .steps)))
+
+-- withdraw takes back a lemma or a strike, and nothing of it is left
+abbrev pub WithdrawLaw : Type 0
+WithdrawLaw =
+    (m : Machine) (ls : List Literal)
+    → (refused m (lemma ls) ≡ 0 → told (told m (lemma ls)) withdraw ≡ m)
+    × (refused m (strike ls) ≡ 0 → told (told m (strike ls)) withdraw ≡ m)
 
 -- n is the highest number of a live clause with these literals, in any order
 pub record HighestLive (m : Machine) (ls : List Literal) (n : ℕ) : Type 0 where
@@ -17,8 +35,8 @@ pub record HighestLive (m : Machine) (ls : List Literal) (n : ℕ) : Type 0 wher
   pub same : SameLiterals ls (text (clauses m) n)
   pub highest : (k : ℕ) → Live (m .inputs) (m .steps) k → SameLiterals ls (text (clauses m) k) → k ≤ n
 
--- a strike that is not turned down strikes the highest live clause with its literals; it is turned down by 11 only where
--- there is none
+-- after any calls, a strike that is not turned down strikes the highest live clause with its literals; it is turned down by
+-- 11 only where there is none
 abbrev pub StrikeLaw : Type 0
 StrikeLaw =
     (variables clausePlaces literalPlaces : ℕ) (calls : List Call) (ls : List Literal)
@@ -33,7 +51,7 @@ StrikesLive inputs [] = Unit {0}
 StrikesLive inputs (learned c ∷ earlier) = StrikesLive inputs earlier
 StrikesLive inputs (struck n ∷ earlier) = Live inputs earlier n × StrikesLive inputs earlier
 
--- every strike hit a live clause, and there are at most two steps to a clause place
+-- after any calls, every strike hit a live clause, and there are at most two steps to a clause place
 abbrev pub StepsFit : Type 0
 StepsFit =
     (variables clausePlaces literalPlaces : ℕ) (calls : List Call)
@@ -57,8 +75,8 @@ strikeOf (struck k ∷ earlier) n = cond (eqb n k) (suc (length earlier)) (strik
 abbrev pub LivesAt : (step entry end : ℕ) → Type 0
 LivesAt step entry end = (entry < step) × ((end ≡ 0) ⊎ (step ≤ end))
 
--- a clause lives from behind the step of its entry up to the step that strikes it, and was never struck at or before the
--- step of its entry
+-- after any calls, a clause was never struck at or before the step of its entry, and it is live at a step exactly if it was
+-- entered before it and not struck before it
 abbrev pub ClausesLive : Type 0
 ClausesLive =
     (variables clausePlaces literalPlaces : ℕ) (calls : List Call) (n : ℕ)

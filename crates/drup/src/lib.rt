@@ -41,11 +41,25 @@ pub fn passing_is_sound() -> u8
     0
 }
 
-ghost use Rattle.drup.specs.Laws.{AcceptanceRefutes, StrikeLaw, StepsFit, ClausesLive};
+ghost use Rattle.drup.specs.Laws.{AcceptanceRefutes, EntryLaw, WithdrawLaw, StrikeLaw, StepsFit, ClausesLive};
 
 /// What the forward check accepts has inputs that no assignment satisfies.
 pub fn acceptance_refutes() -> u8
     ensures { λ _. ⌜ AcceptanceRefutes ⌝ }
+{
+    0
+}
+
+/// A clause or a lemma that is not turned down is entered with just its literals, by rising variable.
+pub fn calls_enter_their_literals() -> u8
+    ensures { λ _. ⌜ EntryLaw ⌝ }
+{
+    0
+}
+
+/// Withdraw takes back a lemma or a strike, and nothing of it is left.
+pub fn withdraw_takes_back() -> u8
+    ensures { λ _. ⌜ WithdrawLaw ⌝ }
 {
     0
 }
