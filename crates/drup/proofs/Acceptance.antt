@@ -1,8 +1,7 @@
 -- What the forward check accepts is refuted.
 use mathlib.Core.Path.{_≡_, refl, subst}
-use mathlib.Core.Logic.{_⊎_, inl, inr}
 use mathlib.Core.Bool.{true, false≢true}
-use mathlib.Core.List.{List, [], _∷_, map, List·Memᴰ·head as here, List·Memᴰ·tail as there, List·Memᴰ·not-nil, Memᴰ·of-map}
+use mathlib.Core.List.{List, [], _∷_, List·Memᴰ·head as here, List·Memᴰ·not-nil}
 use Rattle.cnf.specs.Clauses.{Assignment, Clause, Satisfies, Unsatisfiable, _∈_}
 use Rattle.cnf.proofs.Arranging.{all-cons}
 use Rattle.cnf.proofs.Derivations.{passing-sound}

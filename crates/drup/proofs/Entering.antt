@@ -1,14 +1,12 @@
 -- What a call enters, and what withdraw takes back.
 use mathlib.Core.Path.{_≡_, ap}
 use mathlib.Core.Bool.{false}
-use mathlib.Core.List.{List, [], _∷_}
 use native.Mathlib.Omega.{arith}
 use Rattle.cnf.specs.Arranging.{arranged, beyond, twice}
 use Rattle.cnf.proofs.Arranging.{arranged-clause, arranged-has, arranged-in}
 use Rattle.drup.specs.Forward.{Machine, clause, lemma, rules, strike, told, withdraw}
 use Rattle.drup.specs.Laws.{ClauseFrom, EntryLaw, WithdrawLaw}
-use Rattle.drup.proofs.WellFormed.{unbroken}
-use Rattle.drup.proofs.Trimmed.{taken}
+use Rattle.drup.proofs.WellFormed.{taken, unbroken}
 
 pub entry-law : EntryLaw
 entry-law m ls = (

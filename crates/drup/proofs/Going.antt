@@ -1,4 +1,4 @@
--- For a loop over the steps: the check of m stands before these steps if whatever it comes to from here it comes to as a whole.
+-- A check on its way: steps for a loop that goes back over a job's steps.
 use mathlib.Core.Path.{_≡_, refl}
 use mathlib.Core.Logic.{inl, inr}
 use mathlib.Core.Bool.{true, false}
@@ -10,29 +10,26 @@ use Rattle.cnf.specs.Clauses.{Clause}
 use Rattle.drup.specs.declared.Forced.{Forced}
 use Rattle.drup.specs.History.{Step, learned, nextNumber, struck}
 use Rattle.drup.specs.Forward.{Machine}
-use Rattle.drup.specs.Backward.{Backward, Conflict, Nothing, Outcome, Verdict, accepted, asked, conflictRow, fails, report, withRow}
-use Rattle.drup.specs.Box.{Checks, emptyKept}
+use Rattle.drup.specs.Backward.{Conflict, Nothing, Verdict, accepted, asked, conflictRow, fails, report, withRow}
+use Rattle.drup.specs.Box.{Checks, Stands, emptyKept}
 
 module _ (m : Machine) where
-  abbrev pub Stands : List Step → Verdict → ℕ → Type 0
-  Stands steps so-far count = (outcome : Outcome) → Backward (m .inputs) steps so-far count outcome → Checks m outcome
-
   -- at the last step, with the empty lemma kept
-  pub at-first : Stands (m .steps) (emptyKept m) 0
+  pub at-first : Stands m (m .steps) (emptyKept m) 0
   at-first outcome b = b
 
   module _ (so-far : Verdict) (count : ℕ) where
-    pub past-strike : (n : ℕ) (earlier : List Step) → Stands (struck n ∷ earlier) so-far count → Stands earlier so-far count
+    pub past-strike : (n : ℕ) (earlier : List Step) → Stands m (struck n ∷ earlier) so-far count → Stands m earlier so-far count
     past-strike n earlier s = s
 
-    module _ (c : Clause) (earlier : List Step) (s : Stands (learned c ∷ earlier) so-far count) where
-      pub past-lemma : so-far .kept (nextNumber (m .inputs) earlier) ≡ false → Stands earlier so-far count
+    module _ (c : Clause) (earlier : List Step) (s : Stands m (learned c ∷ earlier) so-far count) where
+      pub past-lemma : so-far .kept (nextNumber (m .inputs) earlier) ≡ false → Stands m earlier so-far count
       past-lemma out outcome b = s outcome (inl (out, b))
 
       module _ (k : so-far .kept (nextNumber (m .inputs) earlier) ≡ true) (answers : List Forced) where
         pub past-conflict :
             (n : ℕ) → Conflict (m .inputs) earlier (map complement c) answers n
-            → Stands earlier (withRow (conflictRow (m .inputs) earlier answers n) so-far) (count + asked answers)
+            → Stands m earlier (withRow (conflictRow (m .inputs) earlier answers n) so-far) (count + asked answers)
         past-conflict n right outcome b = s outcome (inr (inl (k, answers, n, right, b)))
 
         pub at-nothing :
@@ -41,5 +38,5 @@ module _ (m : Machine) where
         at-nothing right = s (fails (suc (length earlier)) (count + asked answers)) (inr (inr (k, answers, right, refl)))
 
     -- at the end
-    pub at-end : Stands [] so-far count → Checks m (accepted so-far (report (m .inputs) so-far count))
+    pub at-end : Stands m [] so-far count → Checks m (accepted so-far (report (m .inputs) so-far count))
     at-end s = s (accepted so-far (report (m .inputs) so-far count)) refl

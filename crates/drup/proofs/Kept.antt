@@ -16,6 +16,7 @@ use Rattle.drup.specs.Marks.{lemmaNumbers}
 use Rattle.drup.specs.WellFormed.{Formed}
 use Rattle.drup.specs.Backward.{Backward, Conflict, Report, Row, Verdict, accepted, asked, conflictRow, fails, withRow}
 use Rattle.drup.specs.Agreement.{Derives, RowOf}
+use Rattle.drup.specs.Jobs.{row}
 use Rattle.drup.proofs.Numbers.{marked-row, marked-same, marked-stays, text-in}
 use Rattle.drup.proofs.Trials.{conflict-lean, conflict-live}
 use Rattle.drup.proofs.Short.{short}

@@ -1,9 +1,9 @@
 -- A clause lives from the step behind its entry up to the step that strikes it.
-use mathlib.Core.Path.{_≡_, refl, sym, _∙_, ap, subst}
+use mathlib.Core.Path.{_≡_, refl, sym, subst}
 use mathlib.Core.Logic.{_⊎_, _↔_, inl, inr}
-use mathlib.Core.Bool.{Bool, true, false, cond, _||_, true≢false, false≢true}
+use mathlib.Core.Bool.{Bool, true, false, cond, _||_}
 use mathlib.Core.List.{List, [], _∷_, _++_}
-use Prim.Native.Nat.{ℕ, suc, _+_, _≤_, _<_}
+use Prim.Native.Nat.{ℕ, suc, _≤_, _<_}
 use native.Mathlib.Omega.{arith}
 use lib.Dec.{eqb}
 use lib.ListN.{length, length-append}
@@ -13,7 +13,7 @@ use Rattle.drup.specs.History.{Before, Live, Step, isStruck, learned, nextNumb
 use Rattle.drup.specs.Forward.{Machine, fed, opened}
 use Rattle.drup.specs.Box.{calls}
 use Rattle.drup.specs.Laws.{ClausesLive, LivesAt, StrikesLive, entryOf, strikeOf}
-use Rattle.drup.proofs.Trimmed.{table-grows}
+use Rattle.drup.proofs.Numbers.{table-grows}
 use Rattle.drup.proofs.Fitting.{steps-fit}
 
 -- a strike that is not 0 is one of the steps

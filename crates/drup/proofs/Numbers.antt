@@ -2,14 +2,14 @@
 use mathlib.Core.Path.{_≡_, refl, sym, _∙_, ap}
 use mathlib.Core.Logic.{_⊎_, inl, inr}
 use mathlib.Core.Bool.{Bool, true, false, cond, false≢true}
-use mathlib.Core.List.{List, [], _∷_, List·Memᴰ·head as here, List·Memᴰ·tail as there, List·Memᴰ·cases-cons as in-cons}
+use mathlib.Core.List.{List, [], _∷_, _++_, List·Memᴰ·head as here, List·Memᴰ·tail as there, List·Memᴰ·cases-cons as in-cons}
 use Prim.Native.Nat.{ℕ, suc, _≤_, _+_}
 use native.Mathlib.Omega.{arith}
 use lib.Dec.{eqb}
 use lib.ListN.{length}
 use Rattle.std.proofs.shelf.Tests.{cases-bool, eq-eqb, eqb-false, eqb-true, ne-eqb, or-cases, or-right}
 use Rattle.cnf.specs.Clauses.{Clause, _∈_, literals}
-use Rattle.drup.specs.History.{text}
+use Rattle.drup.specs.History.{Step, learned, struck, table, text}
 use Rattle.drup.specs.Marks.{Marks, has, marked, sieved}
 
 -- a number up to the next is the next or lower
@@ -43,6 +43,13 @@ number-of (here {x = d} {xs = cs} e) = (suc (length cs), omega arith, omega arit
 number-of (there {x = d} {xs = cs} m) =
     let r = number-of m in
     (r .0, r .1, omega arith, text-older d cs (r .0) (r .2) ∙ r .3)
+
+-- steps add clauses and take none away
+pub table-grows :
+    (inputs : List Clause) (later earlier : List Step) → length (table inputs earlier) ≤ length (table inputs (later ++ earlier))
+table-grows inputs [] earlier = omega arith
+table-grows inputs (learned c ∷ later) earlier = let h = table-grows inputs later earlier in omega arith
+table-grows inputs (struck n ∷ later) earlier = table-grows inputs later earlier
 
 -- the test of a list of numbers is right
 pub has-true : (ks : List ℕ) (n : ℕ) → has ks n ≡ true → n ∈ ks

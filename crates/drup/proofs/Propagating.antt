@@ -1,6 +1,6 @@
 -- Passing and unit propagation: a derivation is a run that falsifies a clause, and a run to its end misses no conflict.
 use mathlib.Core.Path.{_≡_, refl, sym, ap, subst}
-use mathlib.Core.Logic.{_↔_, inl, inr}
+use mathlib.Core.Logic.{inl, inr}
 use mathlib.Core.List.{List, [], _∷_, _++_, map, Memᴰ·append-right}
 use Prim.Native.Nat.{ℕ}
 use Rattle.cnf.specs.declared.literals.Literal.{Literal}

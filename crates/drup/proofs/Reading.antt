@@ -15,7 +15,8 @@ use Rattle.drup.specs.Marks.{Marks, has, lemmaNumbers, marked}
 use Rattle.drup.specs.Forward.{Machine}
 use Rattle.drup.specs.Backward.{Report, Row, Verdict, accepted, arcs, fails, report}
 use Rattle.drup.specs.Box.{Checks, Happens, Lent, checkRefused, checked, emptyKept}
-use Rattle.drup.specs.Reading.{boxOf, marksOf, numbersAt, rowAt, unlessZero, verdictAt}
+use Rattle.drup.specs.Reading.{VerdictsAreRead, boxOf, marksOf, numbersAt, rowAt, unlessZero, verdictAt}
+use Rattle.drup.specs.Jobs.{row}
 use Rattle.drup.proofs.Kept.{in-order}
 
 -- a list with no mark
@@ -96,11 +97,7 @@ all-found found (row ∷ rows) each =
     rw (each row (here refl), all-found found rows (λ r m. each r (there m))) refl
 
 -- the verdict of an accepting check is read off lists that have its marks and its rows
-pub read-back :
-    (m : Machine) (v : Verdict) (r : Report) (marks : List Bool) (arcs : List ℕ) → Checks m (accepted v r)
-    → marksOf marks ≡ v .kept
-    → ((row : Row) → row ∈ v .rows → rowAt m arcs (row .lemma-number) .antecedents ≡ row .antecedents)
-    → verdictAt m marks arcs ≡ v
+pub read-back : VerdictsAreRead
 read-back m v r marks arcs b same written =
     let order = in-order (m .inputs) (m .steps) (emptyKept m) 0 v r b in
     let rows : map (rowAt m arcs) (lemmaNumbers (marksOf marks) (m .inputs) (m .steps) []) ≡ v .rows =

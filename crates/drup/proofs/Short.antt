@@ -1,11 +1,7 @@
 -- A derivation forces each variable at most once, so it is short.
-use mathlib.Core.Path.{_≡_, refl, sym, _∙_, ap, subst}
-use mathlib.Core.Logic.{_⊎_, inl, inr}
-use mathlib.Core.Bool.{Bool, true, false, not, false≢true}
-use mathlib.Core.List.{List, [], _∷_, List·Memᴰ·head as here, List·Memᴰ·tail as there}
+use mathlib.Core.List.{List, [], _∷_}
 use Prim.Native.Nat.{ℕ, suc, _+_, _≤_}
 use native.Mathlib.Omega.{arith}
-use lib.Dec.{eqb}
 use lib.ListN.{length}
 use Rattle.cnf.specs.declared.literals.Literal.{Literal}
 use Rattle.cnf.specs.Clauses.{Clause, Within}
@@ -15,6 +11,7 @@ use Rattle.cnf.proofs.Derivations.{forced-new}
 use Rattle.drup.specs.declared.Forced.{Forced}
 use Rattle.drup.specs.History.{Live, Step, table, text}
 use Rattle.drup.specs.Backward.{Right, RightOver, asked, trail}
+use Rattle.drup.specs.Jobs.{row}
 use Rattle.drup.proofs.Counting.{counted, counted-more, counted-most}
 
 -- how many of the variables from 1 to the highest have a value

@@ -1,9 +1,9 @@
 -- The three slips part from the rule.
-use mathlib.Core.Path.{_≡_, refl, sym, _∙_, subst}
+use mathlib.Core.Path.{_≡_, refl, sym, subst}
 use mathlib.Core.Logic.{_↔_, inl, inr}
 use mathlib.Core.Bool.{Bool, true, false, not, _&&_, true≢false}
-use mathlib.Core.List.{List, [], _∷_, _++_, map, Memᴰ·map, List·Memᴰ·head as here, List·Memᴰ·tail as there, List·Memᴰ·not-nil, List·Memᴰ·cases-cons as in-cons}
-use Prim.Native.Nat.{ℕ, suc, _+_}
+use mathlib.Core.List.{List, [], _∷_, _++_, map, Memᴰ·map, List·Memᴰ·head as here, List·Memᴰ·not-nil, List·Memᴰ·cases-cons as in-cons}
+use Prim.Native.Nat.{ℕ, _+_}
 use native.Mathlib.Omega.{arith}
 use Rattle.std.proofs.shelf.Tests.{and-parts, cases-bool, not-true}
 use Rattle.cnf.specs.declared.literals.Literal.{Literal}
@@ -22,11 +22,11 @@ use Rattle.drup.specs.Jobs.{neg, pos, row}
 use Rattle.drup.specs.Slips.{BackwardIn, EveryForcedKeepsMore, ItselfProvesAll, RuleIsManner, TriedAtEndFails, byRule, noClause, oneUnneeded, struckBehind}
 use Rattle.drup.proofs.Numbers.{at-most, text-in}
 use Rattle.drup.proofs.Standing.{holds-false}
+use Rattle.drup.proofs.Deciding.{TrueIn, conflict-true, live-conflict, lives, lives-true, nothing-true, true-in}
 use Rattle.drup.proofs.Trials.{conflict-passes}
 use Rattle.drup.proofs.WellFormed.{fed-well, opened-well}
 use Rattle.drup.proofs.Visited.{accepted-visited, fails-at, fails-not-accepts}
 use Rattle.drup.proofs.Trimmed.{certified}
-use Rattle.drup.proofs.Deciding.{TrueIn, conflict-true, live-conflict, lives, lives-true, nothing-true, true-in}
 use Rattle.drup.proofs.Jobs.{by, job-b}
 
 -- the rule's manner is the rule

@@ -1,11 +1,11 @@
 -- A struck finds the highest live clause with its literals.
-use mathlib.Core.Path.{_≡_, refl, sym, _∙_, ap, subst}
+use mathlib.Core.Path.{_≡_, refl, sym, _∙_, ap}
 use mathlib.Core.Logic.{inl, inr}
 use mathlib.Core.Bool.{Bool, true, false, cond, not, _&&_, true≢false, false≢true}
 use mathlib.Core.List.{List, [], _∷_, List·Memᴰ·head as here, List·Memᴰ·tail as there, List·Memᴰ·not-nil, List·Memᴰ·cases-cons as in-cons}
 use Prim.Native.Nat.{ℕ, suc, _≤_}
 use native.Mathlib.Omega.{arith}
-use lib.Dec.{ltb, eqb}
+use lib.Dec.{eqb}
 use lib.ListN.{length}
 use Rattle.std.proofs.shelf.Tests.{and-parts, eqb-false, eqb-true, not-true}
 use Rattle.cnf.specs.declared.literals.Literal.{Literal}
@@ -20,8 +20,7 @@ use Rattle.drup.specs.WellFormed.{WellFormed}
 use Rattle.drup.specs.Box.{calls}
 use Rattle.drup.specs.Laws.{HighestLive, StrikeLaw}
 use Rattle.drup.proofs.Numbers.{at-most, text-in, text-newest, text-older}
-use Rattle.drup.proofs.WellFormed.{fed-well, opened-well, unbroken}
-use Rattle.drup.proofs.Trimmed.{taken}
+use Rattle.drup.proofs.WellFormed.{fed-well, opened-well, taken, unbroken}
 
 -- two rising clauses with the same literals are equal
 heads : (k l : Literal) (c d : Clause) → Rising (k ∷ c) → Rising (l ∷ d) → k ∈ (l ∷ d) → l ∈ (k ∷ c) → k ≡ l

@@ -13,14 +13,15 @@ use Rattle.cnf.proofs.Arranging.{clause-arranged, clause-beyond, clause-twice}
 use Rattle.cnf.proofs.Derivations.{carried, lean-derives}
 use Rattle.drup.specs.History.{LearnedAfter, LiveClause, Step, ended, isStruck, learned, lemmas, nextNumber, struck, table, text}
 use Rattle.drup.specs.Marks.{Marks, keptLemmas, lemmaNumbers, sieved}
-use Rattle.drup.specs.Forward.{Accepts, AllPass, Call, Machine, NoneRefused, after, clause, clauses, fed, full, lemma, refused, rules, told, unless}
+use Rattle.drup.specs.Forward.{Accepts, AllPass, Machine, NoneRefused, clause, clauses, fed, full, lemma, refused, rules, told}
 use Rattle.drup.specs.WellFormed.{Formed, NoEmpty, OnlyLastEmpty, WellFormed}
 use Rattle.drup.specs.Backward.{Report, Row, Verdict, accepted, arcs}
 use Rattle.drup.specs.Box.{Checks, emptyKept, last}
 use Rattle.drup.specs.Agreement.{Certified, Leads, Reported, RightRow, RowOf, antecedent, core, is-empty, renewed}
-use Rattle.drup.proofs.Numbers.{number-of, sieved-drawn, sieved-length, sieved-literals, text-sieved}
+use Rattle.drup.specs.Jobs.{row}
+use Rattle.drup.proofs.Numbers.{number-of, sieved-drawn, sieved-length, sieved-literals, table-grows, text-sieved}
 use Rattle.drup.proofs.Acceptance.{refuted}
-use Rattle.drup.proofs.WellFormed.{no-empty-only-last, none-broken, withdrawn}
+use Rattle.drup.proofs.WellFormed.{no-empty-only-last, none-broken, taken, withdrawn}
 use Rattle.drup.proofs.Kept.{every-row, in-order, kept-stays}
 use Rattle.drup.proofs.Visited.{accepted-visited}
 
@@ -47,10 +48,6 @@ no-empty-not-ended [] n = refl
 no-empty-not-ended (learned [] ∷ earlier) n = absurd n
 no-empty-not-ended (learned (l ∷ c) ∷ earlier) n = refl
 no-empty-not-ended (struck k ∷ earlier) n = refl
-
--- a call that is not turned down
-pub taken : (m : Machine) (call : Call) → refused m call ≡ 0 → told m call ≡ after m call
-taken m call e = ap (λ (n : ℕ). unless n (after m call) m) e
 
 module _ (m : Machine) (inputs : List Clause) where
   -- a machine takes an input clause that it may hold
@@ -242,13 +239,6 @@ lemmas-counted kept inputs (learned c ∷ earlier) later =
         ≡ length (cond b (c ∷ keptLemmas kept inputs earlier) (keptLemmas kept inputs earlier)) + length later
     go true below = let h = below (nextNumber inputs earlier ∷ later) in omega arith
     go false below = below later
-
--- steps add clauses and take none away
-pub table-grows :
-    (inputs : List Clause) (later earlier : List Step) → length (table inputs earlier) ≤ length (table inputs (later ++ earlier))
-table-grows inputs [] earlier = omega arith
-table-grows inputs (learned c ∷ later) earlier = let h = table-grows inputs later earlier in omega arith
-table-grows inputs (struck n ∷ later) earlier = table-grows inputs later earlier
 
 -- a job that has ended has a clause, the empty lemma
 ended-some : (inputs : List Clause) (steps : List Step) → ended steps ≡ true → 1 ≤ length (table inputs steps)

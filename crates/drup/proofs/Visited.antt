@@ -19,6 +19,7 @@ use Rattle.drup.specs.WellFormed.{Formed, WellFormed}
 use Rattle.drup.specs.Backward.{Backward, Conflict, Report, Right, Row, Verdict, accepted, arcs, asked, conflictRow, fails, report, withRow}
 use Rattle.drup.specs.Box.{Checks, arcsNeeded, emptyKept, last}
 use Rattle.drup.specs.Agreement.{FailsAt, Leads, RightRow, antecedent, is-empty}
+use Rattle.drup.specs.Jobs.{row}
 use Rattle.drup.proofs.Numbers.{marked-cases, marked-stays, text-in}
 use Rattle.drup.proofs.Trials.{nothing-derives, row-asked}
 use Rattle.drup.proofs.Short.{asked-few}

@@ -1,5 +1,5 @@
 -- What holds of every machine that calls can reach.
-use mathlib.Core.Path.{_≡_, refl}
+use mathlib.Core.Path.{_≡_, refl, ap}
 use mathlib.Core.Bool.{true, false, true≢false}
 use mathlib.Core.List.{List, [], _∷_, List·Memᴰ·tail as there, List·Memᴰ·not-nil}
 use Prim.Native.Nat.{ℕ, zero, suc, _≤_, _+_}
@@ -54,6 +54,10 @@ unbroken (rule k false ∷ rules) n e = (refl, unbroken rules (n .1) e)
 pub none-broken : (rules : List Rule) → Unbroken rules → firstBroken rules ≡ 0
 none-broken [] u = refl
 none-broken (rule n broken ∷ rules) u = rw (u .0) (none-broken rules (u .1))
+
+-- a call that is not turned down
+pub taken : (m : Machine) (call : Call) → refused m call ≡ 0 → told m call ≡ after m call
+taken m call e = ap (λ (n : ℕ). unless n (after m call) m) e
 
 -- a clause that is entered has its place
 entered :

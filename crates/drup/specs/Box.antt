@@ -7,7 +7,7 @@ use Prim.Native.Nat.{ℕ, suc, _*_}
 use lib.Dec.{ltb}
 use lib.ListN.{length}
 use Rattle.cnf.specs.Clauses.{literals}
-use Rattle.drup.specs.History.{ended, lemmas}
+use Rattle.drup.specs.History.{Step, ended, lemmas}
 use Rattle.drup.specs.Marks.{lone}
 use Rattle.drup.specs.Forward.{Machine, clauses, Call, Rule, rule, firstBroken, refused, after, unless}
 use Rattle.drup.specs.Backward.{Verdict, Outcome, accepted, fails, Backward}
@@ -54,6 +54,11 @@ emptyKept m = record { kept = lone (last m); rows = [] }
 abbrev pub Checks : Machine → Outcome → Type 0
 Checks m outcome = Backward (m .inputs) (m .steps) (emptyKept m) 0 outcome
 
+-- a check on its way stands before these steps: whatever it comes to from here, it comes to as a whole
+abbrev pub Stands : Machine → List Step → (so-far : Verdict) → (count : ℕ) → Type 0
+Stands m steps so-far count = (outcome : Outcome) → Backward (m .inputs) steps so-far count outcome → Checks m outcome
+
+-- what can happen to a box
 pub data Event : Type 0 where
   -- a call, and the number by which the box turned it down, 0 if it did not
   called : Call → (refusal : ℕ) → Event

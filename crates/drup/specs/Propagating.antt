@@ -5,7 +5,7 @@ use mathlib.Core.List.{List, [], _∷_, _++_, map}
 use Prim.Native.Nat.{ℕ}
 use Rattle.cnf.specs.declared.literals.Literal.{Literal}
 use Rattle.cnf.specs.Literals.{complement}
-use Rattle.cnf.specs.Clauses.{Clause, _∈_, Assignment, Satisfies}
+use Rattle.cnf.specs.Clauses.{Clause, Assignment, Satisfies}
 use Rattle.cnf.specs.Propagation.{Falsified, Forces, Passes}
 use Rattle.drup.specs.History.{Step, LiveClause, Before}
 use Rattle.drup.specs.Forward.{Machine, opened, Call, fed}

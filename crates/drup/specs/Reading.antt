@@ -1,13 +1,15 @@
 -- A box read off lists: a mark for each clause, and for each lemma as many arc places as a row can fill.
+use mathlib.Core.Path.{_≡_}
 use mathlib.Core.Bool.{Bool, false, cond}
 use mathlib.Core.Option.{none, some}
 use mathlib.Core.List.{List, [], _∷_, map}
 use Prim.Native.Nat.{ℕ, zero, suc, _-_, _*_}
 use lib.ListN.{length, getD}
+use Rattle.cnf.specs.Clauses.{_∈_}
 use Rattle.drup.specs.Marks.{Marks, lemmaNumbers}
 use Rattle.drup.specs.Forward.{Machine}
-use Rattle.drup.specs.Backward.{Row, Verdict}
-use Rattle.drup.specs.Box.{Box}
+use Rattle.drup.specs.Backward.{Row, Verdict, Report, accepted}
+use Rattle.drup.specs.Box.{Box, Checks}
 
 -- the mark of clause n stands at place n - 1; no other number is marked
 abbrev pub marksOf : (marks : List Bool) → Marks
@@ -39,3 +41,12 @@ verdictAt m marks arcs =
 -- a job's box: only a judged job has a verdict
 abbrev pub boxOf : Machine → (judged : Bool) → (marks : List Bool) → (arcs : List ℕ) → Box
 boxOf m judged marks arcs = record { machine = m; verdict = cond judged (some (verdictAt m marks arcs)) none }
+
+-- marks and rows are all that a verdict is: the verdict of an accepting check is read off any lists that have its marks
+-- and, each at its place, its rows
+abbrev pub VerdictsAreRead : Type 0
+VerdictsAreRead =
+    (m : Machine) (v : Verdict) (r : Report) (marks : List Bool) (arcs : List ℕ) → Checks m (accepted v r)
+    → marksOf marks ≡ v .kept
+    → ((row : Row) → row ∈ v .rows → rowAt m arcs (row .lemma-number) .antecedents ≡ row .antecedents)
+    → verdictAt m marks arcs ≡ v

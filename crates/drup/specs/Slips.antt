@@ -11,7 +11,7 @@ use Rattle.cnf.specs.Clauses.{Clause}
 use Rattle.drup.specs.declared.Forced.{Forced}
 use Rattle.drup.specs.History.{Step, learned, struck, table, nextNumber, text, isStruck, Live}
 use Rattle.drup.specs.Forward.{Machine, opened, Call, clause, lemma, strike, fed}
-use Rattle.drup.specs.Backward.{ConflictOver, NothingOver, asked, gathered, Row, Verdict, withRow, Report, report, Outcome, accepted, fails}
+use Rattle.drup.specs.Backward.{ConflictOver, NothingOver, asked, gathered, Verdict, withRow, Report, report, Outcome, accepted, fails}
 use Rattle.drup.specs.Box.{emptyKept, Checks}
 use Rattle.drup.specs.Jobs.{pos, neg}
 

@@ -85,6 +85,15 @@ pub fn clauses_live() -> u8
     0
 }
 
+ghost use Rattle.drup.specs.Reading.{VerdictsAreRead};
+
+/// The verdict of an accepting check is read off lists that have its marks and its rows.
+pub fn verdicts_are_read_off_lists() -> u8
+    ensures { λ _. ⌜ VerdictsAreRead ⌝ }
+{
+    0
+}
+
 ghost use Rattle.drup.specs.Jobs.{WorkedJobs};
 
 /// The jobs on file come to the outcomes that the rules give.
