@@ -174,10 +174,14 @@ saturated full trail (c ∷ e ∷ row) none-forces sub d =
     elim (stands-or-not l full) [
       | inl m ↦ saturated full (l ∷ trail) (e ∷ row) none-forces (all-cons (λ k. k ∈ full) m sub) (d .1 .2)
       | inr no-l ↦ elim (stands-or-not (complement l) full) [
-        | inl m ↦ (c, d .0, λ k in-c. elim (same-or-not k l) [
-          | inl p ↦ subst (λ (x : Literal). complement x ∈ full) (sym p) m
-          | inr n ↦ others k in-c n
-        ])
+        | inl m ↦ (
+          c,
+          d .0,
+          λ k in-c. elim (same-or-not k l) [
+            | inl p ↦ subst (λ (x : Literal). complement x ∈ full) (sym p) m
+            | inr n ↦ others k in-c n
+          ],
+        )
         | inr no-not-l ↦
             absurd (none-forces c l (d .0) (record { stands = d .1 .1 .stands; not-true = no-l; not-false = no-not-l; others = others }))
       ]

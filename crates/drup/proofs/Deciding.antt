@@ -1,7 +1,7 @@
 -- Tests that decide whether answers are right, so that a worked trial is shown by computing it.
-use mathlib.Core.Path.{_≡_, subst}
+use mathlib.Core.Path.{_≡_, sym, _∙_, ap, subst}
 use mathlib.Core.Logic.{inl, inr}
-use mathlib.Core.Bool.{Bool, true, not, _&&_, _||_}
+use mathlib.Core.Bool.{Bool, true, false, not, _&&_, _||_, true≢false}
 use mathlib.Core.List.{List, [], _∷_, List·Memᴰ·not-nil}
 use Prim.Native.Nat.{ℕ}
 use lib.Dec.{leb}
@@ -12,7 +12,7 @@ use Rattle.cnf.specs.Literals.{complement, sameLiteral}
 use Rattle.cnf.specs.Clauses.{Clause, _∈_}
 use Rattle.cnf.specs.Propagation.{Falsified, Forces}
 use Rattle.cnf.proofs.Arranging.{all-cons}
-use Rattle.cnf.proofs.Complements.{same-or-not, sameLiteral-true}
+use Rattle.cnf.proofs.Complements.{same-or-not, sameLiteral-self, sameLiteral-true}
 use Rattle.drup.specs.declared.Forced.{Forced}
 use Rattle.drup.specs.History.{Live, Step, isStruck, table, text}
 use Rattle.drup.specs.Backward.{Conflict, ConflictOver, Nothing, NothingOver, RightOver, holds, trail}
@@ -63,24 +63,44 @@ forces-true trail c l e =
       others = others-true trail c l (b .1);
     }
 
--- a true literal of c, whose complement is not on the trail
-pub record TrueIn (trail : List Literal) (c : Clause) : Type 0 where
-  pub literal : Literal
-  pub stands : literal ∈ c
-  pub is-true : literal ∈ trail
-  pub not-false : complement literal ∈ trail → ⊥
+-- c is not falsified, and forces nothing
+pub record Idle (trail : List Literal) (c : Clause) : Type 0 where
+  pub not-falsified : Falsified trail c → ⊥
+  pub forces-none : (l : Literal) → Forces trail c l → ⊥
 
--- such a literal is found by computing
-pub true-in : (trail : List Literal) (c : Clause) (k : Literal)
-    → (holds k c && (holds k trail && not (holds (complement k) trail))) ≡ true → TrueIn trail c
-true-in trail c k e =
-    let a = and-parts (holds k c) (holds k trail && not (holds (complement k) trail)) e in
-    let b = and-parts (holds k trail) (not (holds (complement k) trail)) (a .1) in
+-- a literal that computing finds in a clause, with a complement that is not on the trail
+open-in : (trail : List Literal) (c : Clause) (k : Literal)
+    → (holds k c && not (holds (complement k) trail)) ≡ true → (k ∈ c) × (complement k ∈ trail → ⊥)
+open-in trail c k e =
+    let a = and-parts (holds k c) (not (holds (complement k) trail)) e in
+    (holds-true k c (a .0), λ m. holds-false m (not-true (holds (complement k) trail) (a .1)))
+
+-- a clause with a true literal is idle
+pub idle-by-true : (trail : List Literal) (c : Clause) (k : Literal)
+    → (holds k c && not (holds (complement k) trail)) ≡ true → holds k trail ≡ true → Idle trail c
+idle-by-true trail c k e t =
+    let o = open-in trail c k e in
     record {
-      literal = k;
-      stands = holds-true k c (a .0);
-      is-true = holds-true k trail (b .0);
-      not-false = λ m. holds-false m (not-true (holds (complement k) trail) (b .1));
+      not-falsified = λ f. o .1 (f k (o .0));
+      forces-none = λ l f. elim (same-or-not k l) [
+        | inl p ↦ f .not-true (subst (λ (x : Literal). x ∈ trail) p (holds-true k trail t))
+        | inr d ↦ o .1 (f .others k (o .0) d)
+      ];
+    }
+
+-- so is one with two literals that are not false
+pub idle-by-two : (trail : List Literal) (c : Clause) (j k : Literal)
+    → (holds j c && not (holds (complement j) trail)) ≡ true → (holds k c && not (holds (complement k) trail)) ≡ true
+    → sameLiteral j k ≡ false → Idle trail c
+idle-by-two trail c j k e g d =
+    let o = open-in trail c j e in
+    let p = open-in trail c k g in
+    record {
+      not-falsified = λ f. o .1 (f j (o .0));
+      forces-none = λ l f. elim (same-or-not j l) [
+        | inl q ↦ p .1 (f .others k (p .0) (λ r. true≢false (sym (sameLiteral-self l) ∙ ap (sameLiteral l) (sym r) ∙ ap (λ (x : Literal). sameLiteral x k) (sym q) ∙ d)))
+        | inr n ↦ o .1 (f .others j (o .0) n)
+      ];
     }
 
 -- over clauses by number, with a test of which are alive
@@ -114,20 +134,15 @@ module _ (alive : ℕ → Type 0) (lives : ℕ → Bool) (lives-true : (n : ℕ)
         false-there = falsified-true (trail assumed answers) (text n) (b .1);
       }
 
-  -- the answers end in nothing: every clause has a true literal
+  -- the answers end in nothing
   pub nothing-true :
-      (answers : List Forced) → allRight answers ≡ true → ((n : ℕ) → alive n → TrueIn (trail assumed answers) (text n))
+      (answers : List Forced) → allRight answers ≡ true → ((n : ℕ) → alive n → Idle (trail assumed answers) (text n))
       → NothingOver alive text assumed answers
   nothing-true answers e each =
       record {
         right = right-true answers e;
-        none-false = λ n live f. let t = each n live in t .not-false (f (t .literal) (t .stands));
-        none-forces = λ n l live f.
-            let t = each n live in
-            elim (same-or-not (t .literal) l) [
-              | inl p ↦ f .not-true (subst (λ (x : Literal). x ∈ trail assumed answers) p (t .is-true))
-              | inr d ↦ t .not-false (f .others (t .literal) (t .stands) d)
-            ];
+        none-false = λ n live. each n live .not-falsified;
+        none-forces = λ n l live. each n live .forces-none l;
       }
 
 -- clause n is live
@@ -153,6 +168,6 @@ module _ (inputs : List Clause) (steps : List Step) where
 
     pub live-nothing :
         allRight (Live inputs steps) lives lives-true (text (table inputs steps)) assumed answers ≡ true
-        → ((n : ℕ) → Live inputs steps n → TrueIn (trail assumed answers) (text (table inputs steps) n))
+        → ((n : ℕ) → Live inputs steps n → Idle (trail assumed answers) (text (table inputs steps) n))
         → Nothing inputs steps assumed answers
     live-nothing e each = nothing-true (Live inputs steps) lives lives-true (text (table inputs steps)) assumed answers e each

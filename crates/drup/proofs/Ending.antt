@@ -74,9 +74,9 @@ module _ (inputs : List Clause) (steps : List Step) where
         absurd (let h = counted-most highest (λ x. names x (trail assumed answers)) in omega arith)
     goes-on (suc fuel) answers right enough =
         elim (scan (λ n. (l : Literal) × Forces (trail assumed answers) (its-text n) l)
-            (λ n. (l : Literal) → Forces (trail assumed answers) (its-text n) l → ⊥)
-            (λ n. forces-or-not (trail assumed answers) (its-text n))
-            (length (table inputs steps)) (omega arith)) [
+        (λ n. (l : Literal) → Forces (trail assumed answers) (its-text n) l → ⊥)
+        (λ n. forces-or-not (trail assumed answers) (its-text n))
+        (length (table inputs steps)) (omega arith)) [
           | inl (n, live, f) ↦
               let next : Forced = record { literal = f .0; number = n } in
               let w = within n live (f .0) (f .1 .stands) in
@@ -94,8 +94,8 @@ module _ (inputs : List Clause) (steps : List Step) where
     trial =
         let (all, right, none) = exhausts in
         elim (scan (λ n. Falsified (trail assumed all) (its-text n)) (λ n. Falsified (trail assumed all) (its-text n) → ⊥)
-            (λ n. falsified-or-not (trail assumed all) (its-text n))
-            (length (table inputs steps)) (omega arith)) [
+        (λ n. falsified-or-not (trail assumed all) (its-text n))
+        (length (table inputs steps)) (omega arith)) [
           | inl (n, live, f) ↦ inl (all, n, record { right = right; live = live; false-there = f })
           | inr whole ↦ inr (
             all,
@@ -123,11 +123,11 @@ comes-to v n q inputs (learned c ∷ earlier) so-far count w =
     elim (cases-bool (so-far .kept (nextNumber inputs earlier))) [
       | inr out ↦ let r = on so-far count before in (r .0, inl (out, r .1))
       | inl k ↦ elim (trial inputs earlier v (live-within v n q inputs earlier before) (map complement c)) [
-            | inl t ↦
-                let r = on (withRow (conflictRow inputs earlier (t .0) (t .1)) so-far) (count + asked (t .0)) before in
-                (r .0, inr (inl (k, t .0, t .1, t .2, r .1)))
-            | inr t ↦ (fails (suc (length earlier)) (count + asked (t .0)), inr (inr (k, t .0, t .1, refl)))
-          ]
+        | inl t ↦
+            let r = on (withRow (conflictRow inputs earlier (t .0) (t .1)) so-far) (count + asked (t .0)) before in
+            (r .0, inr (inl (k, t .0, t .1, t .2, r .1)))
+        | inr t ↦ (fails (suc (length earlier)) (count + asked (t .0)), inr (inr (k, t .0, t .1, refl)))
+      ]
     ]
 
 module _ (m : Machine) (well : WellFormed m) where

@@ -16,7 +16,7 @@ use Rattle.drup.specs.Backward.{Report, Row, accepted}
 use Rattle.drup.specs.Box.{Checks}
 use Rattle.drup.specs.Jobs.{WorkedJobs, counts, jobA, jobB, jobC, jobD, jobE, keeping, machineOf, neg, pos, row}
 use Rattle.drup.proofs.Numbers.{at-most, same-marks}
-use Rattle.drup.proofs.Deciding.{TrueIn, live-conflict, live-nothing, true-in}
+use Rattle.drup.proofs.Deciding.{Idle, idle-by-true, live-conflict, live-nothing}
 
 -- clause n forces l
 abbrev pub by : Literal → (n : ℕ) → Forced
@@ -84,7 +84,7 @@ pub job-b : Checks (machineOf jobB) (jobB .outcome)
 job-b =
     inr (inr (refl, [], live-nothing [] [] [] [] refl none, refl))
   where
-    none : (n : ℕ) → Live [] [] n → TrueIn [] (text [] n)
+    none : (n : ℕ) → Live [] [] n → Idle [] (text [] n)
     none n live = absurd (let h = live .entered in let k = live .numbered in omega arith)
 
 -- the empty clause is false
@@ -111,17 +111,17 @@ job-e =
     let m : Machine = machineOf jobE in
     let before : List Step = withoutLast (m .steps) in
     let answers : List Forced = by (pos 1) 2 ∷ [] in
-    inr (inr (refl, answers, live-nothing (m .inputs) before [] answers refl all-true, refl))
+    inr (inr (refl, answers, live-nothing (m .inputs) before [] answers refl all-idle, refl))
   where
-    all-true :
+    all-idle :
         (n : ℕ) → Live (machineOf jobE .inputs) (withoutLast (machineOf jobE .steps)) n
-        → TrueIn (pos 1 ∷ []) (text (table (machineOf jobE .inputs) (withoutLast (machineOf jobE .steps))) n)
-    all-true n live =
+        → Idle (pos 1 ∷ []) (text (table (machineOf jobE .inputs) (withoutLast (machineOf jobE .steps))) n)
+    all-idle n live =
         elim (at-most n 1 (live .entered)) [
-          | inl e ↦ rw e (true-in (pos 1 ∷ []) (pos 1 ∷ []) (pos 1) refl)
+          | inl e ↦ rw e (idle-by-true (pos 1 ∷ []) (pos 1 ∷ []) (pos 1) refl refl)
           | inr h ↦
               let e : n ≡ 1 = omega (arith, live .numbered) in
-              rw e (true-in (pos 1 ∷ []) (pos 1 ∷ pos 2 ∷ []) (pos 1) refl)
+              rw e (idle-by-true (pos 1 ∷ []) (pos 1 ∷ pos 2 ∷ []) (pos 1) refl refl)
         ]
 
 pub worked-jobs : WorkedJobs

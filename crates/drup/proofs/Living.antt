@@ -119,15 +119,14 @@ module _ (inputs : List Clause) (n : ℕ) (earlier : List Step) where
       (later : List Step) → 1 ≤ n → n ≤ length (table inputs (later ++ earlier)) → StrikesLive inputs (later ++ earlier)
       → Live inputs earlier n
       ↔ LivesAt (suc (length earlier)) (entryOf inputs (later ++ earlier) n) (strikeOf (later ++ earlier) n)
-  lives-at later low high s =
-      (
-        λ live. (entered-before later high .0 (live .entered), struck-later later (live .unstruck)),
-        λ at. record {
-          numbered = low;
-          entered = entered-before later high .1 (at .0);
-          unstruck = later-struck later s (at .1);
-        },
-      )
+  lives-at later low high s = (
+    λ live. (entered-before later high .0 (live .entered), struck-later later (live .unstruck)),
+    λ at. record {
+      numbered = low;
+      entered = entered-before later high .1 (at .0);
+      unstruck = later-struck later s (at .1);
+    },
+  )
 
 -- a clause is struck behind the step of its entry
 struck-after-entry :
@@ -158,8 +157,7 @@ struck-after-entry inputs n (struck k ∷ earlier) s some = go (eqb n k) some (s
 pub clauses-live : ClausesLive
 clauses-live variables clausePlaces literalPlaces calls n low high =
     let m : Machine = fed (opened variables clausePlaces literalPlaces) calls in
-    let s = steps-fit variables clausePlaces literalPlaces calls .0 in
-    (
+    let s = steps-fit variables clausePlaces literalPlaces calls .0 in (
       struck-after-entry (m .inputs) n (m .steps) s,
       λ earlier before. from (m .inputs) (m .steps) earlier before low high s,
     )

@@ -72,22 +72,20 @@ module _ (inputs : List Clause) (earlier : List Step) (assumed : List Literal) w
   -- right answers are a run
   answers-run : (answers : List Forced) → Right inputs earlier assumed answers → Propagated (LiveClause inputs earlier) assumed (forcedBy answers)
   answers-run [] right = tt
-  answers-run (f ∷ answers) right =
-      (
-        (
-          text (table inputs earlier) (f .number),
-          (f .number, right .0, refl),
-          subst (λ (ls : List Literal). Forces ls (text (table inputs earlier) (f .number)) (f .literal)) (same-trail answers) (right .1),
-        ),
-        answers-run answers (right .2),
-      )
+  answers-run (f ∷ answers) right = (
+    (
+      text (table inputs earlier) (f .number),
+      (f .number, right .0, refl),
+      subst (λ (ls : List Literal). Forces ls (text (table inputs earlier) (f .number)) (f .literal)) (same-trail answers) (right .1),
+    ),
+    answers-run answers (right .2),
+  )
 
   -- so a run comes to its end
   ends : (highest : ℕ) → ((n : ℕ) → Live inputs earlier n → Within highest (text (table inputs earlier) n))
       → SomeRunEnds (LiveClause inputs earlier) assumed
   ends highest within =
-      let (all, right, none) = exhausts inputs earlier highest within assumed in
-      (
+      let (all, right, none) = exhausts inputs earlier highest within assumed in (
         forcedBy all,
         answers-run all right,
         λ c l live f.

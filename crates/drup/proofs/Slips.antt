@@ -15,15 +15,15 @@ use Rattle.drup.specs.declared.Forced.{Forced}
 use Rattle.drup.specs.History.{Live, LiveClause, Step, isStruck, learned, struck, table, text}
 use Rattle.drup.specs.Forward.{Accepts, Call, Machine, fed, opened, withoutLast}
 use Rattle.drup.specs.WellFormed.{WellFormed}
-use Rattle.drup.specs.Backward.{Backward, Conflict, ConflictOver, NothingOver, Outcome, Row, Verdict, asked, conflictRow, report, trail, withRow}
+use Rattle.drup.specs.Backward.{Backward, Conflict, ConflictOver, Nothing, NothingOver, Outcome, Row, Verdict, asked, conflictRow, report, trail, withRow}
 use Rattle.drup.specs.Box.{calls, emptyKept}
 use Rattle.drup.specs.Agreement.{Leads, RightRow, antecedent, is-empty}
 use Rattle.drup.specs.Jobs.{neg, pos, row}
-use Rattle.drup.specs.Slips.{BackwardIn, EveryForcedKeepsMore, ItselfProvesAll, RuleIsManner, TriedAtEndFails, byRule, noClause, oneUnneeded, struckBehind}
+use Rattle.drup.specs.Slips.{BackwardIn, EveryForcedKeepsMore, ItselfProvesAll, KeptEveryForced, KeptUnneededLemma, RuleIsManner, TriedAtEndFails, byRule, lemmaUnneeded, noClause, oneUnneeded, struckBehind}
 use Rattle.drup.proofs.Numbers.{at-most, text-in}
 use Rattle.drup.proofs.Standing.{holds-false}
-use Rattle.drup.proofs.Deciding.{TrueIn, conflict-true, live-conflict, lives, lives-true, nothing-true, true-in}
-use Rattle.drup.proofs.Trials.{conflict-passes}
+use Rattle.drup.proofs.Deciding.{Idle, conflict-true, idle-by-true, idle-by-two, live-conflict, live-nothing, lives, lives-true, nothing-true}
+use Rattle.drup.proofs.Trials.{conflict-passes, nothing-derives}
 use Rattle.drup.proofs.WellFormed.{fed-well, opened-well}
 use Rattle.drup.proofs.Visited.{accepted-visited, fails-at, fails-not-accepts}
 use Rattle.drup.proofs.Trimmed.{certified}
@@ -37,8 +37,7 @@ in-manner m [] so-far count outcome = (λ b. b, λ b. b)
 in-manner m (struck n ∷ earlier) so-far count outcome = in-manner m earlier so-far count outcome
 in-manner m (learned c ∷ earlier) so-far count outcome =
     let on : (so-far : Verdict) (count : ℕ) → BackwardIn (byRule m) (m .inputs) earlier so-far count outcome ↔ Backward (m .inputs) earlier so-far count outcome =
-    λ so-far count. in-manner m earlier so-far count outcome in
-    (
+    λ so-far count. in-manner m earlier so-far count outcome in (
       λ b. elim b [
         | inl (k, b) ↦ inl (k, on so-far count .0 b)
         | inr (inl (k, answers, n, right, b)) ↦
@@ -58,10 +57,10 @@ rule-is-manner m outcome = in-manner m (m .steps) (emptyKept m) 0 outcome
 
 -- the machine of a small job
 abbrev job : (variables : ℕ) → List Call → Machine
-job variables calls = fed (opened variables 8 8) calls
+job variables calls = fed (opened variables 16 16) calls
 
 reached : (variables : ℕ) (calls : List Call) → WellFormed (job variables calls)
-reached variables calls = fed-well (opened variables 8 8) calls (opened-well variables 8 8)
+reached variables calls = fed-well (opened variables 16 16) calls (opened-well variables 16 16)
 
 -- the first slip
 abbrev behind : Machine
@@ -98,14 +97,14 @@ slip-conflict =
 
 slip-nothing : NothingOver (AliveAtEnd []) (text (behind .inputs)) (neg 2 ∷ []) (by (neg 1) 2 ∷ [])
 slip-nothing =
-    nothing-true (AliveAtEnd []) (aliveAtEnd []) (alive-true []) (text (behind .inputs)) (neg 2 ∷ []) (by (neg 1) 2 ∷ []) refl all-true
+    nothing-true (AliveAtEnd []) (aliveAtEnd []) (alive-true []) (text (behind .inputs)) (neg 2 ∷ []) (by (neg 1) 2 ∷ []) refl all-idle
   where
-    all-true : (n : ℕ) → AliveAtEnd [] n → TrueIn (neg 1 ∷ neg 2 ∷ []) (text (behind .inputs) n)
-    all-true n (live, unstruck) =
+    all-idle : (n : ℕ) → AliveAtEnd [] n → Idle (neg 1 ∷ neg 2 ∷ []) (text (behind .inputs) n)
+    all-idle n (live, unstruck) =
         elim (at-most n 2 (live .entered)) [
-          | inl e ↦ rw e (true-in (neg 1 ∷ neg 2 ∷ []) (neg 2 ∷ []) (neg 2) refl)
+          | inl e ↦ rw e (idle-by-true (neg 1 ∷ neg 2 ∷ []) (neg 2 ∷ []) (neg 2) refl refl)
           | inr h ↦ elim (at-most n 1 h) [
-            | inl e ↦ rw e (true-in (neg 1 ∷ neg 2 ∷ []) (neg 1 ∷ pos 2 ∷ []) (neg 1) refl)
+            | inl e ↦ rw e (idle-by-true (neg 1 ∷ neg 2 ∷ []) (neg 1 ∷ pos 2 ∷ []) (neg 1) refl refl)
             | inr k ↦ let e : n ≡ 1 = omega (arith, live .numbered) in absurd (true≢false (rw e at unstruck))
           ]
         ]
@@ -207,14 +206,14 @@ not-led rows right (antecedent led x k l) =
     let one = only-step c [] (place .0) earlier (place .1) in
     let P : Clause → List Step → Type 0 =
     λ c earlier.
-        Lean (LiveClause (unneeded .inputs) earlier) (map complement c)
-        (map (text (table (unneeded .inputs) earlier)) (led .antecedents)) in
+    Lean (LiveClause (unneeded .inputs) earlier) (map complement c)
+    (map (text (table (unneeded .inputs) earlier)) (led .antecedents)) in
     let lean : P [] [] = subst (λ (x : Clause). P x []) (one .0) (subst (P c) (one .1) (d .lean)) in
     never-used (LiveClause (unneeded .inputs) []) (pos 1) nowhere [] List·Memᴰ·not-nil
     (map (text (unneeded .inputs)) (led .antecedents)) lean (Memᴰ·map (text (unneeded .inputs)) k)
 
-pub kept-every-forced : EveryForcedKeepsMore
-kept-every-forced =
+unneeded-clause : KeptEveryForced unneeded
+unneeded-clause =
     let m : Machine = unneeded in
     let few : Verdict = withRow (row 4 (2 ∷ 3 ∷ [])) (emptyKept m) in
     let many : Verdict = withRow (row 4 (1 ∷ 2 ∷ 3 ∷ [])) (emptyKept m) in
@@ -225,6 +224,62 @@ kept-every-forced =
           elim (cases-bool (v .kept 1)) [ inl k ↦ absurd (not-led (v .rows) (visited .right) (visited .leads 1 k)) | inr e ↦ e ];
       slip-keeps = (many, report (m .inputs) many 3, inr (inl (refl, forced-both, 3, needed-conflict, refl)), refl);
     }
+
+-- under nothing 5 forces 3, 6 forces 2, 3 forces 1, and 4 is false; under -2 the clause 1 forces 1, and 2 is false
+abbrev idleLemma : Machine
+idleLemma = job 3 lemmaUnneeded
+
+abbrev forced-three : List Forced
+forced-three = by (pos 1) 3 ∷ by (pos 2) 6 ∷ by (pos 3) 5 ∷ []
+
+three-conflict : Conflict (idleLemma .inputs) (withoutLast (idleLemma .steps)) [] forced-three 4
+three-conflict = live-conflict (idleLemma .inputs) (withoutLast (idleLemma .steps)) [] forced-three 4 refl
+
+two-conflict : Conflict (idleLemma .inputs) (learned (pos 3 ∷ []) ∷ []) (neg 2 ∷ []) (by (pos 1) 1 ∷ []) 2
+two-conflict = live-conflict (idleLemma .inputs) (learned (pos 3 ∷ []) ∷ []) (neg 2 ∷ []) (by (pos 1) 1 ∷ []) 2 refl
+
+-- under -3 every clause has two literals that are not false
+idle-nothing : Nothing (idleLemma .inputs) [] (neg 3 ∷ []) []
+idle-nothing = live-nothing (idleLemma .inputs) [] (neg 3 ∷ []) [] refl all-idle
+  where
+    all-idle : (n : ℕ) → Live (idleLemma .inputs) [] n → Idle (neg 3 ∷ []) (text (idleLemma .inputs) n)
+    all-idle n live =
+        elim (at-most n 3 (live .entered)) [
+          | inl e ↦ rw e (idle-by-two (neg 3 ∷ []) (neg 1 ∷ neg 2 ∷ []) (neg 1) (neg 2) refl refl refl)
+          | inr h ↦ elim (at-most n 2 h) [
+            | inl e ↦ rw e (idle-by-two (neg 3 ∷ []) (pos 1 ∷ neg 2 ∷ []) (pos 1) (neg 2) refl refl refl)
+            | inr g ↦ elim (at-most n 1 g) [
+              | inl e ↦ rw e (idle-by-two (neg 3 ∷ []) (neg 1 ∷ pos 2 ∷ []) (neg 1) (pos 2) refl refl refl)
+              | inr k ↦
+                  let e : n ≡ 1 = omega (arith, live .numbered) in
+                  rw e (idle-by-two (neg 3 ∷ []) (pos 1 ∷ pos 2 ∷ []) (pos 1) (pos 2) refl refl refl)
+            ]
+          ]
+        ]
+
+unneeded-lemma : KeptUnneededLemma idleLemma
+unneeded-lemma =
+    let m : Machine = idleLemma in
+    let v : Verdict = withRow (row 6 (1 ∷ 2 ∷ [])) (withRow (row 7 (6 ∷ 3 ∷ 4 ∷ [])) (emptyKept m)) in
+    record {
+      rule-accepts = (
+        v,
+        report (m .inputs) v 6,
+        inr (inl (refl, forced-three, 4, three-conflict, inr (inl (refl, by (pos 1) 1 ∷ [], 2, two-conflict, inl (refl, refl))))),
+      );
+      forward-does-not = λ a. let p = a .1 .1 .1 .0 in nothing-derives (m .inputs) [] (neg 3 ∷ []) [] idle-nothing (p .0) (p .1);
+      slip-fails =
+          inr (inl (
+            refl,
+            forced-three,
+            4,
+            three-conflict,
+            inr (inl (refl, by (pos 1) 1 ∷ [], 2, two-conflict, inr (inr (refl, [], idle-nothing, refl)))),
+          ));
+    }
+
+pub kept-every-forced : EveryForcedKeepsMore
+kept-every-forced = (unneeded-clause, unneeded-lemma)
 
 -- the third slip: the empty lemma is false itself
 pub proved-itself : ItselfProvesAll

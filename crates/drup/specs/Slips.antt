@@ -10,7 +10,7 @@ use Rattle.cnf.specs.Literals.{complement}
 use Rattle.cnf.specs.Clauses.{Clause}
 use Rattle.drup.specs.declared.Forced.{Forced}
 use Rattle.drup.specs.History.{Step, learned, struck, table, nextNumber, text, isStruck, Live}
-use Rattle.drup.specs.Forward.{Machine, opened, Call, clause, lemma, strike, fed}
+use Rattle.drup.specs.Forward.{Machine, opened, Call, clause, lemma, strike, fed, Accepts}
 use Rattle.drup.specs.Backward.{ConflictOver, NothingOver, asked, gathered, Verdict, withRow, Report, report, Outcome, accepted, fails}
 use Rattle.drup.specs.Box.{emptyKept, Checks}
 use Rattle.drup.specs.Jobs.{pos, neg}
@@ -69,8 +69,8 @@ BackwardIn manner inputs (learned c ∷ earlier) so-far count outcome =
     × (answers : List Forced) × (n : ℕ)
     × ConflictOver (manner .alive c earlier) (manner .texts c earlier) (map complement c) answers n
     × BackwardIn manner inputs earlier
-      (withRow (record { lemma-number = nextNumber inputs earlier; antecedents = manner .rowOf (manner .texts c earlier) answers n }) so-far)
-      (count + asked answers) outcome)
+    (withRow (record { lemma-number = nextNumber inputs earlier; antecedents = manner .rowOf (manner .texts c earlier) answers n }) so-far)
+    (count + asked answers) outcome)
     ⊎ ((so-far .kept (nextNumber inputs earlier) ≡ true)
     × (answers : List Forced) × NothingOver (manner .alive c earlier) (manner .texts c earlier) (map complement c) answers
     × (outcome ≡ fails (suc (length earlier)) (count + asked answers)))
@@ -110,6 +110,24 @@ pub record KeptEveryForced (m : Machine) : Type 0 where
   pub rule-never-keeps : (v : Verdict) (r : Report) → Checks m (accepted v r) → v .kept 1 ≡ false
   pub slip-keeps : (v : Verdict) × (r : Report) × ChecksIn everyForced m (accepted v r) × (v .kept 1 ≡ true)
 
+-- the first lemma does not pass, and is not needed
+abbrev pub lemmaUnneeded : List Call
+lemmaUnneeded =
+    lemma []
+    ∷ lemma (pos 2 ∷ [])
+    ∷ lemma (pos 3 ∷ [])
+    ∷ clause (neg 1 ∷ neg 2 ∷ [])
+    ∷ clause (pos 1 ∷ neg 2 ∷ [])
+    ∷ clause (neg 1 ∷ pos 2 ∷ [])
+    ∷ clause (pos 1 ∷ pos 2 ∷ [])
+    ∷ []
+
+-- the rule accepts, though the forward check, which tries every lemma, does not; with the same answers the slip fails
+pub record KeptUnneededLemma (m : Machine) : Type 0 where
+  pub rule-accepts : (v : Verdict) × (r : Report) × Checks m (accepted v r)
+  pub forward-does-not : Accepts m → ⊥
+  pub slip-fails : ChecksIn everyForced m (fails 1 7)
+
 -- no clause at all
 abbrev pub noClause : List Call
 noClause = lemma [] ∷ []
@@ -122,15 +140,15 @@ pub record ProvedItself (m : Machine) : Type 0 where
 
 -- a slip shows on a job
 abbrev pub ShowsOn : (Machine → Type 0) → (variables : ℕ) → List Call → Type 0
-ShowsOn Slip variables calls = Slip (fed (opened variables 8 8) calls)
+ShowsOn Slip variables calls = Slip (fed (opened variables 16 16) calls)
 
 -- trying a lemma over the clauses live at the end fails where the rule accepts
 abbrev pub TriedAtEndFails : Type 0
 TriedAtEndFails = ShowsOn TriedAtEnd 2 struckBehind
 
--- keeping every forced clause keeps one that the rule never does
+-- keeping every forced clause keeps one that the rule never does, and fails where the rule accepts
 abbrev pub EveryForcedKeepsMore : Type 0
-EveryForcedKeepsMore = ShowsOn KeptEveryForced 2 oneUnneeded
+EveryForcedKeepsMore = ShowsOn KeptEveryForced 2 oneUnneeded × ShowsOn KeptUnneededLemma 3 lemmaUnneeded
 
 -- letting a lemma prove itself accepts where the rule never does
 abbrev pub ItselfProvesAll : Type 0
