@@ -25,7 +25,7 @@ all-follow v inputs (learned d ∷ earlier) passes sat =
     (passes .0))
     (all-follow v inputs earlier (passes .1) sat)
 
--- so the inputs of an accepted job have no model
+-- so no assignment satisfies the inputs of an accepted job
 pub refuted : (inputs : List Clause) (steps : List Step) → ended steps ≡ true → AllPass inputs steps → Unsatisfiable inputs
 refuted inputs [] e passes v sat = false≢true e
 refuted inputs (struck n ∷ earlier) e passes v sat = false≢true e

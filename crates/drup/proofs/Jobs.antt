@@ -10,13 +10,14 @@ use Rattle.std.proofs.shelf.Tests.{and-parts, eqb-true, or-cases}
 use Rattle.cnf.specs.declared.literals.Literal.{Literal}
 use Rattle.drup.specs.declared.Forced.{Forced}
 use Rattle.drup.specs.History.{Live, Step, table, text}
-use Rattle.drup.specs.Marks.{Marks, has, lone, marked}
 use Rattle.drup.specs.Forward.{Machine, withoutLast}
+use Rattle.drup.specs.Marks.{Marks, has, lone, marked}
 use Rattle.drup.specs.Backward.{Report, Row, accepted}
 use Rattle.drup.specs.Box.{Checks}
 use Rattle.drup.specs.Jobs.{WorkedJobs, counts, jobA, jobB, jobC, jobD, jobE, keeping, machineOf, neg, pos, row}
 use Rattle.drup.proofs.Numbers.{at-most, same-marks}
 use Rattle.drup.proofs.Deciding.{Idle, idle-by-true, live-conflict, live-nothing}
+use Rattle.drup.proofs.WellFormed.{not-ended}
 
 -- clause n forces l
 abbrev pub by : Literal → (n : ℕ) → Forced
@@ -125,4 +126,9 @@ job-e =
         ]
 
 pub worked-jobs : WorkedJobs
-worked-jobs = ((job-a, (job-b, (job-c, (job-d, (job-e, tt))))), record { not-twice = refl; again = refl })
+worked-jobs = (
+  (job-a, (job-b, (job-c, (job-d, (job-e, tt))))),
+  record { not-twice = refl; again = refl },
+  record { eleven = refl; twelve = refl; open-and-eleven = refl; open-and-twelve = refl; not-ended = refl },
+  refl,
+)

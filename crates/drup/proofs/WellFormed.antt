@@ -13,7 +13,7 @@ use Rattle.cnf.specs.Arranging.{arranged, beyond, twice}
 use Rattle.cnf.proofs.Arranging.{all-cons, arranged-clause, arranged-length}
 use Rattle.drup.specs.History.{Step, begun, ended, learned, struck, table}
 use Rattle.drup.specs.Forward.{Call, Machine, Rule, after, clause, clauses, fed, firstBroken, full, lemma, opened, refused, rule, rules, strike, told, unless, withdraw, withoutLast}
-use Rattle.drup.specs.WellFormed.{Formed, NoEmpty, OnlyLastEmpty, WellFormed}
+use Rattle.drup.specs.WellFormed.{Formed, NoEmpty, OnlyLastEmpty, StaysWellFormed, WellFormed}
 use Rattle.drup.specs.Box.{calls}
 
 -- a new machine is well-formed
@@ -126,3 +126,6 @@ told-well m call w = go (refused m call) refl
 pub fed-well : (m : Machine) (calls : List Call) → WellFormed m → WellFormed (fed m calls)
 fed-well m [] w = w
 fed-well m (call ∷ earlier) w = told-well (fed m earlier) call (fed-well m earlier w)
+
+pub stays-well-formed : StaysWellFormed
+stays-well-formed = (opened-well, told-well)

@@ -1,14 +1,15 @@
 -- Jobs worked out, as one collection: what they are told, and what their check comes to. The answers behind the outcomes
 -- are those of an engine that gives the lowest falsified clause, else the lowest forcing one.
 use mathlib.Core.Path.{_≡_}
-use mathlib.Core.Bool.{true, false}
+use mathlib.Core.Bool.{Bool, true, false}
 use mathlib.Core.List.{List, [], _∷_}
 use Prim.Native.Nat.{ℕ}
 use Rattle.cnf.specs.declared.literals.Literal.{Literal}
 use Rattle.drup.specs.Marks.{has}
-use Rattle.drup.specs.Forward.{Machine, opened, Call, clause, lemma, strike, withdraw, refused, fed}
+use Rattle.drup.specs.Forward.{Machine, opened, Call, clause, lemma, strike, withdraw, refused, told, fed}
 use Rattle.drup.specs.Backward.{Row, Report, Outcome, accepted, fails}
-use Rattle.drup.specs.Box.{Checks}
+use Rattle.drup.specs.Box.{Lent, checkRefused, Checks}
+use Rattle.drup.specs.Reading.{verdictAt}
 
 -- the two literals of a variable
 abbrev pub pos : ℕ → Literal
@@ -110,5 +111,26 @@ pub record StruckAgain : Type 0 where
   pub again :
       refused (fed (opened 1 1 1) (withdraw ∷ strike (pos 1 ∷ []) ∷ clause (pos 1 ∷ []) ∷ [])) (strike (pos 1 ∷ [])) ≡ 0
 
+-- an engine with places enough, and so many arc places
+abbrev pub lending : (trialOpen : Bool) → (arcPlaces : ℕ) → Lent
+lending trialOpen arcPlaces =
+    record { clauseLimit = 500; literalLimit = 16384; trialOpen = trialOpen; arcPlaces = arcPlaces }
+
+-- job A has three lemmas over three variables, so its check needs twelve arc places; 13 comes before 6, and 6 before 19
+pub record TwelveArcPlaces : Type 0 where
+  pub eleven : checkRefused (machineOf jobA) (lending false 11) ≡ 6
+  pub twelve : checkRefused (machineOf jobA) (lending false 12) ≡ 0
+  pub open-and-eleven : checkRefused (machineOf jobA) (lending true 11) ≡ 6
+  pub open-and-twelve : checkRefused (machineOf jobA) (lending true 12) ≡ 19
+  pub not-ended : checkRefused (told (machineOf jobA) withdraw) (lending true 0) ≡ 13
+
+-- its rows stand in those places, four for each lemma
+abbrev pub RowsOfA : Type 0
+RowsOfA =
+    verdictAt (machineOf jobA)
+    (true ∷ true ∷ true ∷ true ∷ false ∷ true ∷ false ∷ true ∷ [])
+    (1 ∷ 2 ∷ 0 ∷ 0 ∷ 0 ∷ 0 ∷ 0 ∷ 0 ∷ 6 ∷ 3 ∷ 4 ∷ 0 ∷ []) .rows
+    ≡ row 6 (1 ∷ 2 ∷ []) ∷ row 8 (6 ∷ 3 ∷ 4 ∷ []) ∷ []
+
 abbrev pub WorkedJobs : Type 0
-WorkedJobs = AllComeOut worked × StruckAgain
+WorkedJobs = AllComeOut worked × StruckAgain × TwelveArcPlaces × RowsOfA

@@ -34,8 +34,8 @@ byRule m = record {
 abbrev pub liveAtEnd : Machine → Manner
 liveAtEnd m = record {
   alive = λ c earlier n. Live (m .inputs) earlier n × (isStruck n (m .steps) ≡ false);
-  texts = λ c earlier. text (table (m .inputs) earlier);
-  rowOf = λ text answers n. gathered text answers (n ∷ []);
+  texts = byRule m .texts;
+  rowOf = byRule m .rowOf;
 }
 
 -- the forced numbers, in their order, and then these
@@ -46,8 +46,8 @@ allForced (f ∷ earlier) row = allForced earlier (f .number ∷ row)
 -- the second slip: every clause that forced a literal is kept
 abbrev pub everyForced : Machine → Manner
 everyForced m = record {
-  alive = λ c earlier. Live (m .inputs) earlier;
-  texts = λ c earlier. text (table (m .inputs) earlier);
+  alive = byRule m .alive;
+  texts = byRule m .texts;
   rowOf = λ text answers n. allForced answers (n ∷ []);
 }
 
@@ -56,7 +56,7 @@ abbrev pub itselfToo : Machine → Manner
 itselfToo m = record {
   alive = λ c earlier. Live (m .inputs) (learned c ∷ earlier);
   texts = λ c earlier. text (table (m .inputs) (learned c ∷ earlier));
-  rowOf = λ text answers n. gathered text answers (n ∷ []);
+  rowOf = byRule m .rowOf;
 }
 
 -- from the last step to the first, in this manner
@@ -94,7 +94,7 @@ struckBehind =
     ∷ clause (pos 1 ∷ [])
     ∷ []
 
--- the rule accepts, and with no right answers fails; the slip fails at the lemma
+-- the rule accepts, and fails with no right answers; the slip fails at the lemma
 pub record TriedAtEnd (m : Machine) : Type 0 where
   pub rule-accepts : (v : Verdict) × (r : Report) × Checks m (accepted v r)
   pub rule-never-fails : (step answers : ℕ) → Checks m (fails step answers) → ⊥
@@ -104,7 +104,7 @@ pub record TriedAtEnd (m : Machine) : Type 0 where
 abbrev pub oneUnneeded : List Call
 oneUnneeded = lemma [] ∷ clause (neg 2 ∷ []) ∷ clause (pos 2 ∷ []) ∷ clause (pos 1 ∷ []) ∷ []
 
--- the rule accepts, and with no right answers keeps the first clause; the slip keeps it
+-- the rule accepts, and keeps the first clause with no right answers; the slip keeps it
 pub record KeptEveryForced (m : Machine) : Type 0 where
   pub rule-accepts : (v : Verdict) × (r : Report) × Checks m (accepted v r)
   pub rule-never-keeps : (v : Verdict) (r : Report) → Checks m (accepted v r) → v .kept 1 ≡ false
@@ -132,7 +132,7 @@ pub record KeptUnneededLemma (m : Machine) : Type 0 where
 abbrev pub noClause : List Call
 noClause = lemma [] ∷ []
 
--- the rule fails, and with no right answers accepts; the slip accepts
+-- the rule fails, and accepts with no right answers; the slip accepts
 pub record ProvedItself (m : Machine) : Type 0 where
   pub rule-fails : Checks m (fails 1 1)
   pub rule-never-accepts : (v : Verdict) (r : Report) → Checks m (accepted v r) → ⊥

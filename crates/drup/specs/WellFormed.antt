@@ -1,10 +1,10 @@
--- What holds of every machine that calls can reach.
+-- The invariant of a machine: it holds of every machine that calls can reach.
 use mathlib.Core.List.{List, [], _∷_}
 use Prim.Native.Nat.{ℕ, _≤_}
 use lib.ListN.{length}
 use Rattle.cnf.specs.Clauses.{Clause, _∈_, IsClause, literals}
 use Rattle.drup.specs.History.{Step, learned, struck, table}
-use Rattle.drup.specs.Forward.{Machine}
+use Rattle.drup.specs.Forward.{Machine, opened, Call, told}
 
 -- none of these lemmas is empty
 abbrev pub NoEmpty : List Step → Type 0
@@ -27,3 +27,9 @@ pub record Formed (variables clausePlaces literalPlaces : ℕ) (inputs : List Cl
 
 abbrev pub WellFormed : Machine → Type 0
 WellFormed m = Formed (m .variables) (m .clausePlaces) (m .literalPlaces) (m .inputs) (m .steps)
+
+-- a new machine is well-formed, and every call, turned down or not, keeps it so
+abbrev pub StaysWellFormed : Type 0
+StaysWellFormed =
+    ((variables clausePlaces literalPlaces : ℕ) → WellFormed (opened variables clausePlaces literalPlaces))
+    × ((m : Machine) (call : Call) → WellFormed m → WellFormed (told m call))

@@ -25,6 +25,15 @@ pub fn every_check_ends() -> u8
     0
 }
 
+ghost use Rattle.drup.specs.WellFormed.{StaysWellFormed};
+
+/// The invariant of a machine holds of a new one, and every call keeps it.
+pub fn calls_keep_well_formed() -> u8
+    ensures { λ _. ⌜ StaysWellFormed ⌝ }
+{
+    0
+}
+
 ghost use Rattle.drup.specs.Propagating.{PassingIsPropagation, PassingIsSound};
 
 /// A lemma passes exactly when unit propagation to its end, with the lemma's literals false, falsifies a live clause.
