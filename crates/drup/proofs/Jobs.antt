@@ -1,4 +1,4 @@
--- The jobs worked out, with the answers of an engine that gives the lowest falsified clause, else the lowest forcing one.
+-- The jobs worked out, each by answers that take the lowest falsified clause, else the lowest forcing one.
 use mathlib.Core.Path.{_≡_, refl, _∙_, ap}
 use mathlib.Core.Logic.{inl, inr}
 use mathlib.Core.Bool.{Bool, true, _&&_, false≢true}

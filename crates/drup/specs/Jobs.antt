@@ -1,5 +1,5 @@
--- Jobs worked out, as one collection: what they are told, and what their check comes to. The answers behind the outcomes
--- are those of an engine that gives the lowest falsified clause, else the lowest forcing one.
+-- Jobs worked out, as one collection: what they are told, and what their check comes to by some right answers. The proofs
+-- take the lowest falsified clause, else the lowest forcing one.
 use mathlib.Core.Path.{_≡_}
 use mathlib.Core.Bool.{Bool, true, false}
 use mathlib.Core.List.{List, [], _∷_}
