@@ -20,10 +20,10 @@ use Rattle.drup.specs.WellFormed.{Formed, WellFormed}
 use Rattle.drup.specs.Backward.{Backward, Conflict, Nothing, Outcome, Report, Right, Verdict, accepted, asked, conflictRow, fails, report, trail, withRow}
 use Rattle.drup.specs.Box.{Box, Checks, Happens, Lent, calls, checkRefused, checked, emptyKept, verdictOf}
 use Rattle.drup.specs.Agreement.{EveryCheckEnds}
-use Rattle.drup.proofs.Numbers.{at-most, text-in}
+use Rattle.drup.proofs.Numbers.{at-most}
 use Rattle.drup.proofs.Counting.{counted-more, counted-most}
 use Rattle.drup.proofs.Short.{assigned}
-use Rattle.drup.proofs.WellFormed.{fed-well, opened-well, withdrawn}
+use Rattle.drup.proofs.WellFormed.{fed-well, live-within, opened-well, withdrawn}
 use Rattle.drup.proofs.Visited.{fails-at, fails-not-accepts}
 use Rattle.drup.proofs.Agreeing.{agreement}
 
@@ -102,13 +102,6 @@ module _ (inputs : List Clause) (steps : List Step) where
             record { right = right; none-false = λ n live. whole n (live .entered) live; none-forces = none },
           )
         ]
-
--- the clauses live behind the steps of a well-formed job are over its variables
-pub live-within :
-    (v n q : ℕ) (inputs : List Clause) (steps : List Step) → Formed v n q inputs steps
-    → (k : ℕ) → Live inputs steps k → Within v (text (table inputs steps) k)
-live-within v n q inputs steps w k live =
-    w .all-clauses (text (table inputs steps) k) (text-in (table inputs steps) k (live .numbered) (live .entered)) .within
 
 -- a check comes to an outcome
 comes-to :

@@ -11,7 +11,6 @@ use Rattle.cnf.specs.Arranging.{arranged}
 use Rattle.drup.specs.History.{Step, begun, isStruck, learned, lemmas, struck, table}
 use Rattle.drup.specs.Forward.{Call, Machine, after, clause, clauses, fed, lemma, opened, refused, rules, strike, target, unless, withdraw, withoutLast}
 use Rattle.drup.specs.WellFormed.{WellFormed}
-use Rattle.drup.specs.Box.{calls}
 use Rattle.drup.specs.Laws.{StepsFit, StrikesLive}
 use Rattle.drup.proofs.Counting.{counted, counted-more, counted-most}
 use Rattle.drup.proofs.WellFormed.{fed-well, opened-well, unbroken}

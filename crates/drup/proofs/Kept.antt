@@ -7,20 +7,19 @@ use Prim.Native.Nat.{ℕ, _+_, _≤_, _<_}
 use native.Mathlib.Omega.{arith}
 use lib.ListN.{length, length-map}
 use Rattle.cnf.specs.Literals.{complement}
-use Rattle.cnf.specs.Clauses.{Clause, _∈_}
+use Rattle.cnf.specs.Clauses.{Clause, Within, _∈_}
 use Rattle.cnf.proofs.Arranging.{all-cons}
 use Rattle.cnf.proofs.Derivations.{lean-derives}
 use Rattle.drup.specs.declared.Forced.{Forced}
 use Rattle.drup.specs.History.{LearnedAfter, LiveClause, Step, learned, nextNumber, struck, table, text}
-use Rattle.drup.specs.Marks.{lemmaNumbers}
 use Rattle.drup.specs.WellFormed.{Formed}
+use Rattle.drup.specs.Marks.{lemmaNumbers}
 use Rattle.drup.specs.Backward.{Backward, Conflict, Report, Row, Verdict, accepted, asked, conflictRow, fails, withRow}
 use Rattle.drup.specs.Agreement.{Derives, RowOf}
-use Rattle.drup.specs.Jobs.{row}
-use Rattle.drup.proofs.Numbers.{marked-row, marked-same, marked-stays, text-in}
+use Rattle.drup.proofs.Numbers.{marked-row, marked-same, marked-stays}
 use Rattle.drup.proofs.Trials.{conflict-lean, conflict-live}
 use Rattle.drup.proofs.Short.{short}
-use Rattle.drup.proofs.WellFormed.{withdrawn}
+use Rattle.drup.proofs.WellFormed.{live-within, withdrawn}
 
 -- the row of a conflict is a short derivation with no idle entry
 pub conflict-derives :
@@ -33,10 +32,7 @@ conflict-derives v n q inputs earlier c answers k formed right =
     let texts : List Clause = map (text (table inputs earlier)) numbers in
     let bound =
     short v (LiveClause inputs earlier)
-    (λ d s.
-    formed .all-clauses d
-    (subst (λ (x : Clause). x ∈ table inputs earlier) (s .2) (text-in (table inputs earlier) (s .0) (s .1 .numbered) (s .1 .entered)))
-    .within)
+    (λ d s. subst (Within v) (s .2) (live-within v n q inputs earlier formed (s .0) (s .1)))
     (map complement c) texts (lean-derives (LiveClause inputs earlier) (map complement c) texts lean) in
     let same = length-map numbers (text (table inputs earlier)) in
     record {

@@ -7,12 +7,12 @@ use Prim.Native.Nat.{ℕ, suc, _≤_, _<_}
 use native.Mathlib.Omega.{arith}
 use lib.Dec.{eqb}
 use lib.ListN.{length, length-append}
-use Rattle.std.proofs.shelf.Tests.{eqb-false, eqb-true, ne-eqb, or-from, or-parts}
+use Rattle.std.proofs.shelf.Tests.{cases-bool, eqb-false, eqb-true, ne-eqb, or-from, or-parts}
 use Rattle.cnf.specs.Clauses.{Clause}
 use Rattle.drup.specs.History.{Before, Live, Step, isStruck, learned, nextNumber, struck, table}
 use Rattle.drup.specs.Forward.{Machine, fed, opened}
 use Rattle.drup.specs.Box.{calls}
-use Rattle.drup.specs.Laws.{ClausesLive, LivesAt, StrikesLive, entryOf, strikeOf}
+use Rattle.drup.specs.Laws.{ClausesLive, GoingBack, LivesAt, StrikesLive, entryOf, strikeOf}
 use Rattle.drup.proofs.Numbers.{table-grows}
 use Rattle.drup.proofs.Fitting.{steps-fit}
 
@@ -128,6 +128,14 @@ module _ (inputs : List Clause) (n : ℕ) (earlier : List Step) where
     },
   )
 
+-- a number that was not entered was not struck
+pub never-yet :
+    (inputs : List Clause) (n : ℕ) (steps : List Step) → StrikesLive inputs steps → length (table inputs steps) < n → isStruck n steps ≡ false
+never-yet inputs n [] s h = refl
+never-yet inputs n (learned c ∷ earlier) s h = never-yet inputs n earlier s (omega arith)
+never-yet inputs n (struck k ∷ earlier) s h =
+    or-from (eqb n k) (isStruck n earlier) (ne-eqb n k (λ p. let l = s .0 .entered in omega arith)) (never-yet inputs n earlier (s .1) h)
+
 -- a clause is struck behind the step of its entry
 struck-after-entry :
     (inputs : List Clause) (n : ℕ) (steps : List Step) → StrikesLive inputs steps → (strikeOf steps n ≡ 0 → ⊥)
@@ -137,13 +145,7 @@ struck-after-entry inputs n (learned c ∷ earlier) s some = go (eqb n (nextNumb
   where
     go : (b : Bool) → eqb n (nextNumber inputs earlier) ≡ b → entryOf inputs earlier n < strikeOf earlier n
         → cond b (suc (length earlier)) (entryOf inputs earlier n) < strikeOf earlier n
-    go true e h = absurd (some (strike-none earlier n (never-yet earlier s (let p = eqb-true n (nextNumber inputs earlier) e in omega arith))))
-      where
-        never-yet : (steps : List Step) → StrikesLive inputs steps → length (table inputs steps) < n → isStruck n steps ≡ false
-        never-yet [] s h = refl
-        never-yet (learned c ∷ earlier) s h = never-yet earlier s (omega arith)
-        never-yet (struck k ∷ earlier) s h =
-            or-from (eqb n k) (isStruck n earlier) (ne-eqb n k (λ p. let l = s .0 .entered in omega arith)) (never-yet earlier (s .1) h)
+    go true e h = absurd (some (strike-none earlier n (never-yet inputs n earlier s (let p = eqb-true n (nextNumber inputs earlier) e in omega arith))))
     go false e h = h
 struck-after-entry inputs n (struck k ∷ earlier) s some = go (eqb n k) some (struck-after-entry inputs n earlier (s .1))
   where
@@ -172,3 +174,67 @@ clauses-live variables clausePlaces literalPlaces calls n low high =
         (lives-at inputs n earlier later low
         (subst (λ (all : List Step). n ≤ length (table inputs all)) e high)
         (subst (StrikesLive inputs) e s))
+
+-- the strikes of an earlier part
+strikes-before : (inputs : List Clause) (later earlier : List Step) → StrikesLive inputs (later ++ earlier) → StrikesLive inputs earlier
+strikes-before inputs [] earlier s = s
+strikes-before inputs (learned c ∷ later) earlier s = strikes-before inputs later earlier s
+strikes-before inputs (struck n ∷ later) earlier s = strikes-before inputs later earlier (s .1)
+
+module _ (inputs : List Clause) (earlier : List Step) where
+  -- back over a strike
+  pub back-strike :
+      (n : ℕ) → Live inputs earlier n → (k : ℕ) → Live inputs earlier k ↔ ((k ≡ n) ⊎ Live inputs (struck n ∷ earlier) k)
+  back-strike n was k = (
+    λ live. elim (cases-bool (eqb k n)) [
+      | inl e ↦ inl (eqb-true k n e)
+      | inr e ↦ inr (record {
+        numbered = live .numbered;
+        entered = live .entered;
+        unstruck = or-from (eqb k n) (isStruck k earlier) e (live .unstruck);
+      })
+    ],
+    λ either. elim either [
+      | inl e ↦ subst (Live inputs earlier) (sym e) was
+      | inr live ↦ record {
+        numbered = live .numbered;
+        entered = live .entered;
+        unstruck = or-parts (eqb k n) (isStruck k earlier) (live .unstruck) .1;
+      }
+    ],
+  )
+
+  -- back over a lemma
+  pub lemma-live : (c : Clause) → StrikesLive inputs earlier → Live inputs (learned c ∷ earlier) (nextNumber inputs earlier)
+  lemma-live c s =
+      record {
+        numbered = omega arith;
+        entered = omega arith;
+        unstruck = never-yet inputs (nextNumber inputs earlier) earlier s (omega arith);
+      }
+
+  pub back-lemma :
+      (c : Clause) (k : ℕ)
+      → Live inputs earlier k ↔ (Live inputs (learned c ∷ earlier) k × (k ≡ nextNumber inputs earlier → ⊥))
+  back-lemma c k = (
+    λ live.
+        let h = live .entered in
+        (record { numbered = live .numbered; entered = omega arith; unstruck = live .unstruck }, λ e. omega arith),
+    λ both.
+        let h = both .0 .entered in
+        let d = both .1 in
+        record { numbered = both .0 .numbered; entered = omega arith; unstruck = both .0 .unstruck },
+  )
+
+pub going-back : GoingBack
+going-back variables clausePlaces literalPlaces calls earlier =
+    let m : Machine = fed (opened variables clausePlaces literalPlaces) calls in
+    let s = steps-fit variables clausePlaces literalPlaces calls .0 in (
+      λ n at.
+          let strikes = strikes-before (m .inputs) (at .0) (struck n ∷ earlier) (subst (StrikesLive (m .inputs)) (at .1) s) in
+          back-strike (m .inputs) earlier n (strikes .0),
+      λ c at. (
+        lemma-live (m .inputs) earlier c (strikes-before (m .inputs) (at .0) (learned c ∷ earlier) (subst (StrikesLive (m .inputs)) (at .1) s)),
+        back-lemma (m .inputs) earlier c,
+      ),
+    )

@@ -15,10 +15,8 @@ use Rattle.drup.specs.WellFormed.{Formed}
 use Rattle.drup.specs.Propagating.{EveryRunClashes, FoundByPropagation, PassingIsPropagation, PassingIsSound, Propagated, SomeRunClashes, SomeRunEnds}
 use Rattle.drup.specs.Backward.{Right, trail}
 use Rattle.drup.specs.Box.{calls}
-use Rattle.drup.specs.Jobs.{row}
-use Rattle.drup.proofs.WellFormed.{fed-well, opened-well, withdrawn}
-use Rattle.drup.proofs.Ending.{exhausts, live-within}
-use Rattle.drup.proofs.Jobs.{by}
+use Rattle.drup.proofs.WellFormed.{fed-well, live-within, opened-well, withdrawn}
+use Rattle.drup.proofs.Ending.{exhausts}
 
 module _ (s : Clause → Type 0) (assumed : List Literal) where
   -- what a derivation forces is a run

@@ -13,10 +13,9 @@ use Rattle.std.proofs.shelf.Tests.{cases-bool, eqb-false, eqb-true, ne-eqb}
 use Rattle.cnf.specs.Clauses.{_∈_}
 use Rattle.drup.specs.Marks.{Marks, has, lemmaNumbers, marked}
 use Rattle.drup.specs.Forward.{Machine}
-use Rattle.drup.specs.Backward.{Report, Row, Verdict, accepted, arcs, fails, report}
+use Rattle.drup.specs.Backward.{Report, Row, Verdict, accepted, fails}
 use Rattle.drup.specs.Box.{Checks, Happens, Lent, checkRefused, checked, emptyKept}
 use Rattle.drup.specs.Reading.{VerdictsAreRead, boxOf, marksOf, numbersAt, rowAt, unlessZero, verdictAt}
-use Rattle.drup.specs.Jobs.{row}
 use Rattle.drup.proofs.Kept.{in-order}
 
 -- a list with no mark

@@ -9,9 +9,7 @@ use Rattle.cnf.specs.Propagation.{Derivation}
 use Rattle.cnf.specs.Arranging.{names}
 use Rattle.cnf.proofs.Derivations.{forced-new}
 use Rattle.drup.specs.declared.Forced.{Forced}
-use Rattle.drup.specs.History.{Live, Step, table, text}
-use Rattle.drup.specs.Backward.{Right, RightOver, asked, trail}
-use Rattle.drup.specs.Jobs.{row}
+use Rattle.drup.specs.Backward.{RightOver, asked, trail}
 use Rattle.drup.proofs.Counting.{counted, counted-more, counted-most}
 
 -- how many of the variables from 1 to the highest have a value
@@ -46,16 +44,10 @@ module _ (highest : ℕ) (live : ℕ → Type 0) (text : ℕ → Clause) (assume
       let k = forced-few within earlier (right .2) in
       omega arith
 
-  pub asked-few-over :
+  pub asked-few :
       ((n : ℕ) → live n → Within highest (text n))
       → (answers : List Forced) → RightOver live text assumed answers → asked answers ≤ suc highest
-  asked-few-over within answers right =
+  asked-few within answers right =
       let h = forced-few within answers right in
       let k = counted-most highest (λ x. names x (trail assumed answers)) in
       omega arith
-
-pub asked-few :
-    (highest : ℕ) (inputs : List Clause) (steps : List Step) (assumed : List Literal)
-    → ((n : ℕ) → Live inputs steps n → Within highest (text (table inputs steps) n))
-    → (answers : List Forced) → Right inputs steps assumed answers → asked answers ≤ suc highest
-asked-few highest inputs steps assumed = asked-few-over highest (Live inputs steps) (text (table inputs steps)) assumed

@@ -16,7 +16,7 @@ use Rattle.drup.specs.History.{Live, LiveClause, Step, isStruck, learned, stru
 use Rattle.drup.specs.Forward.{Accepts, Call, Machine, fed, opened, withoutLast}
 use Rattle.drup.specs.WellFormed.{WellFormed}
 use Rattle.drup.specs.Backward.{Backward, Conflict, ConflictOver, Nothing, NothingOver, Outcome, Row, Verdict, asked, conflictRow, report, trail, withRow}
-use Rattle.drup.specs.Box.{calls, emptyKept}
+use Rattle.drup.specs.Box.{emptyKept}
 use Rattle.drup.specs.Agreement.{Leads, RightRow, antecedent, is-empty}
 use Rattle.drup.specs.Jobs.{neg, pos, row}
 use Rattle.drup.specs.Slips.{BackwardIn, EveryForcedKeepsMore, ItselfProvesAll, KeptEveryForced, KeptUnneededLemma, RuleIsManner, TriedAtEndFails, byRule, lemmaUnneeded, noClause, oneUnneeded, struckBehind}

@@ -10,7 +10,6 @@ use Rattle.cnf.specs.Clauses.{Clause, _∈_}
 use Rattle.cnf.specs.Propagation.{StandsIn}
 use Rattle.cnf.proofs.Complements.{sameLiteral-self, sameLiteral-true}
 use Rattle.drup.specs.Backward.{holds, standsIn}
-use Rattle.drup.specs.Jobs.{row}
 
 pub holds-true : (l : Literal) (c : Clause) → holds l c ≡ true → l ∈ c
 holds-true l [] e = absurd (false≢true e)

@@ -10,7 +10,6 @@ use Rattle.cnf.specs.Propagation.{Falsified, Forces}
 use Rattle.cnf.proofs.Arranging.{all-cons}
 use Rattle.drup.specs.declared.Forced.{Forced}
 use Rattle.drup.specs.Backward.{ConflictOver, NothingOver, RightOver, gathered, standsIn, trail}
-use Rattle.drup.specs.Jobs.{row}
 
 module _ (alive alive′ : ℕ → Type 0) (text text′ : ℕ → Clause)
     (to : (n : ℕ) → alive n → alive′ n) (same : (n : ℕ) → alive′ n → text n ≡ text′ n) (assumed : List Literal) where

@@ -16,7 +16,6 @@ use Rattle.cnf.proofs.Derivations.{lean-before, lean-derives, narrowed, saturat
 use Rattle.drup.specs.declared.Forced.{Forced}
 use Rattle.drup.specs.History.{Live, LiveClause, Step, table, text}
 use Rattle.drup.specs.Backward.{Conflict, Nothing, Right, gathered, standsIn, trail}
-use Rattle.drup.specs.Jobs.{row}
 use Rattle.drup.proofs.Standing.{standsIn-false, standsIn-true}
 
 -- what was assumed stays on the trail

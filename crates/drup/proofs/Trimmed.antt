@@ -11,14 +11,13 @@ use Rattle.cnf.specs.Clauses.{Clause, _∈_, literals}
 use Rattle.cnf.specs.Propagation.{Passes}
 use Rattle.cnf.proofs.Arranging.{clause-arranged, clause-beyond, clause-twice}
 use Rattle.cnf.proofs.Derivations.{carried, lean-derives}
-use Rattle.drup.specs.History.{LearnedAfter, LiveClause, Step, ended, isStruck, learned, lemmas, nextNumber, struck, table, text}
+use Rattle.drup.specs.History.{LearnedAfter, LiveClause, Step, ended, isStruck, learned, nextNumber, struck, table, text}
 use Rattle.drup.specs.Marks.{Marks, keptLemmas, lemmaNumbers, sieved}
 use Rattle.drup.specs.Forward.{Accepts, AllPass, Machine, NoneRefused, clause, clauses, fed, full, lemma, refused, rules, told}
 use Rattle.drup.specs.WellFormed.{Formed, NoEmpty, OnlyLastEmpty, WellFormed}
 use Rattle.drup.specs.Backward.{Report, Row, Verdict, accepted, arcs}
 use Rattle.drup.specs.Box.{Checks, emptyKept, last}
 use Rattle.drup.specs.Agreement.{Certified, Leads, Reported, RightRow, RowOf, antecedent, core, is-empty, renewed}
-use Rattle.drup.specs.Jobs.{row}
 use Rattle.drup.proofs.Numbers.{number-of, sieved-drawn, sieved-length, sieved-literals, table-grows, text-sieved}
 use Rattle.drup.proofs.Acceptance.{refuted}
 use Rattle.drup.proofs.WellFormed.{no-empty-only-last, none-broken, taken, withdrawn}

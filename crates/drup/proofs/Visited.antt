@@ -12,18 +12,17 @@ use Rattle.cnf.specs.Clauses.{Clause, _∈_}
 use Rattle.cnf.specs.Propagation.{Passes}
 use Rattle.cnf.proofs.Arranging.{all-cons}
 use Rattle.drup.specs.declared.Forced.{Forced}
-use Rattle.drup.specs.History.{Before, LearnedAfter, LiveClause, Step, learned, lemmas, nextNumber, struck, table, text}
-use Rattle.drup.specs.Marks.{marked}
+use Rattle.drup.specs.History.{Before, LearnedAfter, Live, LiveClause, Step, learned, lemmas, nextNumber, struck, table, text}
 use Rattle.drup.specs.Forward.{Accepts, AllPass, Machine}
 use Rattle.drup.specs.WellFormed.{Formed, WellFormed}
+use Rattle.drup.specs.Marks.{marked}
 use Rattle.drup.specs.Backward.{Backward, Conflict, Report, Right, Row, Verdict, accepted, arcs, asked, conflictRow, fails, report, withRow}
 use Rattle.drup.specs.Box.{Checks, arcsNeeded, emptyKept, last}
 use Rattle.drup.specs.Agreement.{FailsAt, Leads, RightRow, antecedent, is-empty}
-use Rattle.drup.specs.Jobs.{row}
-use Rattle.drup.proofs.Numbers.{marked-cases, marked-stays, text-in}
+use Rattle.drup.proofs.Numbers.{marked-cases, marked-stays}
 use Rattle.drup.proofs.Trials.{nothing-derives, row-asked}
 use Rattle.drup.proofs.Short.{asked-few}
-use Rattle.drup.proofs.WellFormed.{withdrawn}
+use Rattle.drup.proofs.WellFormed.{live-within, withdrawn}
 use Rattle.drup.proofs.Kept.{accepted-not-fails, conflict-derives}
 
 -- what leads by some rows leads by more
@@ -105,10 +104,9 @@ module _ (m : Machine) where
       → Visited (learned c ∷ earlier) so-far count → Right (m .inputs) earlier (map complement c) answers
       → asked answers ≤ suc (m .variables)
   asked-formed c earlier so-far count answers v right =
-      asked-few (m .variables) (m .inputs) earlier (map complement c)
-      (λ n live.
-      v .formed .all-clauses (text (table (m .inputs) earlier) n)
-      (there (text-in (table (m .inputs) earlier) n (live .numbered) (live .entered))) .within)
+      let before = withdrawn (m .variables) (m .clausePlaces) (m .literalPlaces) (m .inputs) (learned c ∷ earlier) (v .formed) in
+      asked-few (m .variables) (Live (m .inputs) earlier) (text (table (m .inputs) earlier)) (map complement c)
+      (live-within (m .variables) (m .clausePlaces) (m .literalPlaces) (m .inputs) earlier before)
       answers right
 
   -- a kept lemma's row is recorded, and its numbers are kept

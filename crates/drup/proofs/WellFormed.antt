@@ -8,13 +8,13 @@ use lib.Dec.{leb, ltb}
 use lib.ListN.{length}
 use Rattle.std.proofs.shelf.Tests.{leb-false, ltb-false, or-parts}
 use Rattle.cnf.specs.declared.literals.Literal.{Literal}
-use Rattle.cnf.specs.Clauses.{Clause, IsClause, _∈_, literals}
+use Rattle.cnf.specs.Clauses.{Clause, IsClause, Within, _∈_, literals}
 use Rattle.cnf.specs.Arranging.{arranged, beyond, twice}
 use Rattle.cnf.proofs.Arranging.{all-cons, arranged-clause, arranged-length}
-use Rattle.drup.specs.History.{Step, begun, ended, learned, struck, table}
+use Rattle.drup.specs.History.{Live, Step, begun, ended, learned, struck, table, text}
 use Rattle.drup.specs.Forward.{Call, Machine, Rule, after, clause, clauses, fed, firstBroken, full, lemma, opened, refused, rule, rules, strike, told, unless, withdraw, withoutLast}
 use Rattle.drup.specs.WellFormed.{Formed, NoEmpty, OnlyLastEmpty, StaysWellFormed, WellFormed}
-use Rattle.drup.specs.Box.{calls}
+use Rattle.drup.proofs.Numbers.{text-in}
 
 -- a new machine is well-formed
 pub opened-well : (variables clausePlaces literalPlaces : ℕ) → WellFormed (opened variables clausePlaces literalPlaces)
@@ -126,6 +126,13 @@ told-well m call w = go (refused m call) refl
 pub fed-well : (m : Machine) (calls : List Call) → WellFormed m → WellFormed (fed m calls)
 fed-well m [] w = w
 fed-well m (call ∷ earlier) w = told-well (fed m earlier) call (fed-well m earlier w)
+
+-- the clauses live behind the steps of a well-formed job are over its variables
+pub live-within :
+    (v n q : ℕ) (inputs : List Clause) (steps : List Step) → Formed v n q inputs steps
+    → (k : ℕ) → Live inputs steps k → Within v (text (table inputs steps) k)
+live-within v n q inputs steps w k live =
+    w .all-clauses (text (table inputs steps) k) (text-in (table inputs steps) k (live .numbered) (live .entered)) .within
 
 pub stays-well-formed : StaysWellFormed
 stays-well-formed = (opened-well, told-well)

@@ -87,6 +87,18 @@ ClausesLive =
     → Live (m .inputs) earlier n
     ↔ LivesAt (suc (length earlier)) (entryOf (m .inputs) (m .steps) n) (strikeOf (m .steps) n))
 
+-- after any calls, what going back over a step does to the live clauses: a strike's clause, which was live before it, comes
+-- back; a lemma, which is live behind its step, goes; the others stay as they are
+abbrev pub GoingBack : Type 0
+GoingBack =
+    (variables clausePlaces literalPlaces : ℕ) (calls : List Call) (earlier : List Step)
+    → let m : Machine = fed (opened variables clausePlaces literalPlaces) calls in
+    ((n : ℕ) → Before (struck n ∷ earlier) (m .steps)
+    → (k : ℕ) → Live (m .inputs) earlier k ↔ ((k ≡ n) ⊎ Live (m .inputs) (struck n ∷ earlier) k))
+    × ((c : Clause) → Before (learned c ∷ earlier) (m .steps)
+    → Live (m .inputs) (learned c ∷ earlier) (nextNumber (m .inputs) earlier)
+    × ((k : ℕ) → Live (m .inputs) earlier k ↔ (Live (m .inputs) (learned c ∷ earlier) k × (k ≡ nextNumber (m .inputs) earlier → ⊥))))
+
 -- what the forward check accepts has inputs that no assignment satisfies
 abbrev pub AcceptanceRefutes : Type 0
 AcceptanceRefutes = (m : Machine) → Accepts m → Unsatisfiable (m .inputs)

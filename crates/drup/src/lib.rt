@@ -50,7 +50,7 @@ pub fn passing_is_sound() -> u8
     0
 }
 
-ghost use Rattle.drup.specs.Laws.{AcceptanceRefutes, EntryLaw, WithdrawLaw, StrikeLaw, StepsFit, ClausesLive};
+ghost use Rattle.drup.specs.Laws.{AcceptanceRefutes, EntryLaw, WithdrawLaw, StrikeLaw, StepsFit, ClausesLive, GoingBack};
 
 /// What the forward check accepts has inputs that no assignment satisfies.
 pub fn acceptance_refutes() -> u8
@@ -90,6 +90,13 @@ pub fn steps_fit() -> u8
 /// A clause lives from behind the step of its entry up to the step that strikes it, which is never at or before it.
 pub fn clauses_live() -> u8
     ensures { λ _. ⌜ ClausesLive ⌝ }
+{
+    0
+}
+
+/// Going back over a strike brings its clause back to life, and over a lemma takes it away; the others stay.
+pub fn going_back() -> u8
+    ensures { λ _. ⌜ GoingBack ⌝ }
 {
     0
 }
