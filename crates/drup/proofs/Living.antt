@@ -11,7 +11,6 @@ use Rattle.std.proofs.shelf.Tests.{cases-bool, eqb-false, eqb-true, ne-eqb, or-
 use Rattle.cnf.specs.Clauses.{Clause}
 use Rattle.drup.specs.History.{Before, Live, Step, isStruck, learned, nextNumber, struck, table}
 use Rattle.drup.specs.Forward.{Machine, fed, opened}
-use Rattle.drup.specs.Box.{calls}
 use Rattle.drup.specs.Laws.{ClausesLive, GoingBack, LivesAt, StrikesLive, entryOf, strikeOf}
 use Rattle.drup.proofs.Numbers.{table-grows}
 use Rattle.drup.proofs.Fitting.{steps-fit}

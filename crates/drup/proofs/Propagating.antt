@@ -14,7 +14,6 @@ use Rattle.drup.specs.Forward.{Machine, fed, opened}
 use Rattle.drup.specs.WellFormed.{Formed}
 use Rattle.drup.specs.Propagating.{EveryRunClashes, FoundByPropagation, PassingIsPropagation, PassingIsSound, Propagated, SomeRunClashes, SomeRunEnds}
 use Rattle.drup.specs.Backward.{Right, trail}
-use Rattle.drup.specs.Box.{calls}
 use Rattle.drup.proofs.WellFormed.{fed-well, live-within, opened-well, withdrawn}
 use Rattle.drup.proofs.Ending.{exhausts}
 

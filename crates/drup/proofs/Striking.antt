@@ -17,7 +17,6 @@ use Rattle.cnf.proofs.Complements.{sameLiteral-self, sameLiteral-true}
 use Rattle.drup.specs.History.{Live, Step, ended, isStruck, liveCopy, sameClause, text}
 use Rattle.drup.specs.Forward.{Machine, clauses, fed, opened, rules, strike, target}
 use Rattle.drup.specs.WellFormed.{WellFormed}
-use Rattle.drup.specs.Box.{calls}
 use Rattle.drup.specs.Laws.{HighestLive, StrikeLaw}
 use Rattle.drup.proofs.Numbers.{at-most, text-in, text-newest, text-older}
 use Rattle.drup.proofs.WellFormed.{fed-well, opened-well, taken, unbroken}
