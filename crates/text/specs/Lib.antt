@@ -4,3 +4,4 @@ pub mod Readers
 pub mod Memory
 pub mod Standard
 pub mod Round
+pub mod Grammar

@@ -7,3 +7,4 @@ pub mod Spoken
 pub mod Told
 pub mod Runs
 pub mod Covers
+pub mod Fewer

@@ -3,8 +3,7 @@ ghost use mathlib.Core.Path.{_≡_};
 ghost use lib.ListN.{length};
 ghost use Prim.Native.Nat.{_-_, _<_, min};
 ghost use Rattle.words.specs.Texts.{wordsOf, restOf};
-ghost use Rattle.text.specs.Formulas.{before, clauses, between, inside, nothing, variable-count, heading, moves, moved, literalOf, capped, counted, formulaOf};
-ghost use Rattle.text.specs.Round.{StandardRead};
+ghost use Rattle.text.specs.Formulas.{before, clauses, between, inside, nothing, variable-count, heading, moves, moved, literalOf, capped, counted};
 ghost use Rattle.text.specs.Readers.{standing, stateOf, wordsLeft, extentOf, clauseIn, moveOf, Takes, SameWords};
 ghost use Rattle.words.specs.Lexis.{number};
 ghost use Rattle.text.specs.declared.formulas.Position.the-variants.{Heading, Between, Inside};
@@ -49,7 +48,6 @@ impl<'a> FormulaReader<'a> {
         ensures state { λ r. ⌜ stateOf r ≡ before ⌝ }
         ensures words { λ r. ⌜ wordsLeft r ≡ wordsOf (now (text .entry)) ⌝ }
         ensures extent { λ r. ⌜ extentOf r ≡ length (now (text .entry)) ⌝ }
-        ensures standard { λ _. ⌜ StandardRead (formulaOf (now (text .entry))) ⌝ }
     {
         FormulaReader {
             words: Words::new(text),
