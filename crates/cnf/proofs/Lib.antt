@@ -1,3 +1,5 @@
 pub mod Inserting
 pub mod Ascents
 pub mod Arranging
+pub mod Complements
+pub mod Derivations
