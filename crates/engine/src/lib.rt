@@ -3,4 +3,6 @@
 pub mod answers;
 pub mod contract;
 pub mod faults;
+pub mod limits;
+pub mod looks;
 pub mod trials;
