@@ -162,14 +162,6 @@ answered m (Conflict n) = counted m
 answered m (Forced l n) = counted (joinedBy l n m)
 answered m Nothing = counted m
 
--- what more an engine says that answers the lowest falsified number, else the lowest forcing one
-abbrev pub SaysLowest : Meaning → Answer → Type 0
-SaysLowest m (Conflict n) = (k : ℕ) → k < n → On m k → Falsified (values m) (textOf m k) → ⊥
-SaysLowest m (Forced l n) =
-    ((k : ℕ) → On m k → Falsified (values m) (textOf m k) → ⊥)
-    × ((k : ℕ) (j : Literal) → k < n → On m k → Forces (values m) (textOf m k) j → ⊥)
-SaysLowest m Nothing = Unit {0}
-
 -- A call that is refused with the fault that `refusal` names, changing nothing, and else leaves `after`.
 abbrev pub Does : {T : Type 0} → (refusal : Option EngineFault) → (before after : Meaning) → Result T EngineFault → Meaning → Type 0
 Does refusal before after (Ok x) m = (refusal ≡ None) × (m ≡ after)

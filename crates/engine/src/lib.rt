@@ -5,4 +5,5 @@ pub mod contract;
 pub mod faults;
 pub mod limits;
 pub mod looks;
+pub mod trails;
 pub mod trials;
