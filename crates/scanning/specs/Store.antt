@@ -61,9 +61,13 @@ pub record ScanSound (s : Scanning) : Type 0 where
 pub scan-laws : (s : Scanning) → ScanSound s → WellFormed (scanMeaning s)
 scan-laws s sound = sound .well
 
+-- a text written over the places from this one on
+abbrev pub written : List Literal → (start : ℕ) → (text : List Literal) → List Literal
+written places start text = (take start places ++ text) ++ drop (start + length text) places
+
 -- the text was written behind the literals, and all else stayed
 pub record Copied (s : Scanning) (text : List Literal) (z : Scanning) : Type 0 where
-  pub places : now (z .places) ≡ take (s .«literal_count») (now (s .places)) ++ (text ++ drop (s .«literal_count» + length text) (now (s .places)))
+  pub places : now (z .places) ≡ written (now (s .places)) (s .«literal_count») text
   pub rows : now (z .rows) ≡ now (s .rows)
   pub text-limit : z .«text_limit» ≡ s .«text_limit»
   pub literal-limit : z .«literal_limit» ≡ s .«literal_limit»
