@@ -101,6 +101,10 @@ joinedBy l n m = withTrail (m .trail ++ entry l n ∷ []) m
 abbrev pub counted : Meaning → Meaning
 counted m = record { texts = m .texts; on = m .on; trail = m .trail; opened = m .opened; answers = min (m .answers + 1) most; textLimit = m .textLimit; literalLimit = m .literalLimit }
 
+-- so many answers more
+abbrev pub countedBy : (more : ℕ) → Meaning → Meaning
+countedBy k m = record { texts = m .texts; on = m .on; trail = m .trail; opened = m .opened; answers = min (m .answers + k) most; textLimit = m .textLimit; literalLimit = m .literalLimit }
+
 -- a rule: whether it is broken, and the fault if it is
 pub data Rule : Type 0 where
   rule : (broken : Bool) → EngineFault → Rule
