@@ -1,14 +1,18 @@
 //! How a scanning engine keeps its texts.
 ghost use mathlib.Core.Path.{_≡_};
-ghost use mathlib.Core.Bool.{true, not, cond};
+ghost use mathlib.Core.Bool.{false, not, cond};
 ghost use Prim.Native.Nat.{_+_, _<_, _≤_};
 ghost use lib.ListN.{length};
 ghost use Rattle.std.specs.declared.option.Option.the-variants.{Some, None};
-ghost use Rattle.engine.specs.Meaning.{isOn, noText, noRoom, withText, withMark};
+ghost use Rattle.engine.specs.Meaning.{isOn, noText, noRoom, withText, withMark, cleared, Puts};
 ghost use Rattle.scanning.specs.Store.{scanMeaning, ScanSound, Shaped, Copied};
 use crate::Scanning;
 use crate::rows::TextRow;
+use cnf::drafts::MOST_VARIABLES;
+use cnf::drafts::arranging::arrange;
 use cnf::literals::Literal;
+use engine::faults::EngineFault;
+use engine::faults::EngineFromClause;
 
 impl<'a> Scanning<'a> {
     /// Whether the text with this number is on, if there is one.
@@ -72,5 +76,32 @@ impl<'a> Scanning<'a> {
         self.rows[self.text_count as usize] = row;
         self.text_count += 1;
         self.literal_count = start + length;
+    }
+    /// Adds a text, unless its literals make no clause or there is no room for it.
+    pub(crate) fn add(&mut self, literals: &[Literal]) -> Result<(), EngineFault>
+        requires sound { ⌜ ScanSound (now self) ⌝ }
+        requires shut { ⌜ now self .opened ≡ false ⌝ }
+        ensures does { λ r. ⌜ Puts (scanMeaning (now (self .entry))) (now (literals .entry)) r (scanMeaning (now (self .exit))) ⌝ }
+        ensures stays { λ _. ⌜ ScanSound (now (self .exit)) ⌝ }
+    {
+        let draft = arrange(MOST_VARIABLES, literals);
+        let text = draft.clause()?;
+        if !self.has_room(text.len()) {
+            return Err(EngineFault::Full);
+        }
+        self.store(text);
+        Ok(())
+    }
+
+    /// Empties an engine that has no trial open, and its count of answers.
+    pub(crate) fn wipe(&mut self)
+        requires sound { ⌜ ScanSound (now self) ⌝ }
+        requires shut { ⌜ now self .opened ≡ false ⌝ }
+        ensures means { λ _. ⌜ scanMeaning (now (self .exit)) ≡ cleared (scanMeaning (now (self .entry))) ⌝ }
+        ensures stays { λ _. ⌜ ScanSound (now (self .exit)) ⌝ }
+    {
+        self.text_count = 0;
+        self.literal_count = 0;
+        self.answers = 0;
     }
 }

@@ -5,18 +5,17 @@ use Rattle.engine.specs.Meaning.{cleared}
 use Rattle.engine.proofs.Refusing.{alike, shut-done}
 use Rattle.engine.proofs.Keeping.{clears-well}
 use Rattle.scanning.specs.Store.{scanMeaning}
-use Rattle.scanning.proofs.serving.ScanningEngine.clear.Needs as need
+use Rattle.scanning.proofs.Scanning.wipe.Needs as need
 
 pub returns : need.returns
 returns c =
-    let s = c .args .self .now in
-    let ok = c .pre in
-    let a = shut-done (scanMeaning s) (c .if-self .left) in
-    let after = alike {n = cleared (scanMeaning s)} refl refl (ok .well .at-rest (c .if-self .left)) (c .if-self .left) refl refl refl in
+    let m = scanMeaning (c .args .self .now) in
+    let ok = c .pre .sound in
+    let after = alike {n = cleared m} refl refl (ok .well .at-rest (c .pre .shut)) (c .pre .shut) refl refl refl in
     record {
-      does = (a, after);
+      means = after;
       stays = record {
-        well = clears-well (scanMeaning s) (ok .well) (Ok tt) _ (a, after);
+        well = clears-well m (ok .well) (Ok tt) _ (shut-done m (c .pre .shut), after);
         shape = record {
           enough-rows = ok .shape .enough-rows;
           enough-places = ok .shape .enough-places;

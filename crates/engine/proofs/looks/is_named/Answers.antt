@@ -8,7 +8,7 @@ use Rattle.cnf.specs.Arranging.{names}
 use Rattle.engine.specs.declared.answers.Entry.{Entry}
 use Rattle.engine.specs.Meaning.{valuesOf}
 use Rattle.engine.proofs.Looking.{blank, goes-on, comes-out}
-use Rattle.engine.proofs.looks.has_value.Needs as need
+use Rattle.engine.proofs.looks.is_named.Needs as need
 
 pub returns-then-variable-entry : need.returns-then-variable-entry
 returns-then-variable-entry c =
