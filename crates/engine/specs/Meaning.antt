@@ -132,11 +132,11 @@ noTrial m = firstBroken (rule (not (m .opened)) NoTrial ∷ [])
 abbrev pub noPut : Meaning → List Literal → Option EngineFault
 noPut m ls =
     firstBroken (
-      rule (m .opened) TrialOpen
-      ∷ rule (beyond highest ls) (Faulty (OutOfRange (inRangeUntil highest ls)))
-      ∷ rule (twice ls) (Faulty (Repeated (newUntil [] ls)))
-      ∷ rule (noRoom m (length ls)) Full
-      ∷ [])
+    rule (m .opened) TrialOpen
+    ∷ rule (beyond highest ls) (Faulty (OutOfRange (inRangeUntil highest ls)))
+    ∷ rule (twice ls) (Faulty (Repeated (newUntil [] ls)))
+    ∷ rule (noRoom m (length ls)) Full
+    ∷ [])
 
 abbrev pub noOn : Meaning → (number : ℕ) → Option EngineFault
 noOn m n = firstBroken (rule (m .opened) TrialOpen ∷ rule (noText m n) NoSuchText ∷ rule (isOn m n) AlreadyOn ∷ [])
@@ -147,10 +147,10 @@ noOff m n = firstBroken (rule (m .opened) TrialOpen ∷ rule (noText m n) NoSuch
 abbrev pub noAssume : Meaning → Literal → Option EngineFault
 noAssume m l =
     firstBroken (
-      rule (not (m .opened)) NoTrial
-      ∷ rule (outside highest l) (Faulty (OutOfRange 0))
-      ∷ rule (names (l .variable) (values m)) HasValue
-      ∷ [])
+    rule (not (m .opened)) NoTrial
+    ∷ rule (outside highest l) (Faulty (OutOfRange 0))
+    ∷ rule (names (l .variable) (values m)) HasValue
+    ∷ [])
 
 -- what an answer says
 abbrev pub Says : Meaning → Answer → Type 0

@@ -54,10 +54,10 @@ Tried m c b n =
 abbrev pub noTry : Meaning → List Literal → Option EngineFault
 noTry m ls =
     firstBroken (
-      rule (m .opened) TrialOpen
-      ∷ rule (beyond highest ls) (Faulty (OutOfRange (inRangeUntil highest ls)))
-      ∷ rule (twice ls) (Faulty (Repeated (newUntil [] ls)))
-      ∷ [])
+    rule (m .opened) TrialOpen
+    ∷ rule (beyond highest ls) (Faulty (OutOfRange (inRangeUntil highest ls)))
+    ∷ rule (twice ls) (Faulty (Repeated (newUntil [] ls)))
+    ∷ [])
 
 abbrev pub Tries : Meaning → List Literal → Result Bool EngineFault → Meaning → Type 0
 Tries m ls (Ok b) n = (noTry m ls ≡ None) × Tried m (arranged ls) b n

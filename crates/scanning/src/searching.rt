@@ -23,7 +23,11 @@ impl<'a> Scanning<'a> {
         ensures { λ r. ⌜ r ≡ (isOn (scanMeaning (now (self .entry))) number && falsified (values (scanMeaning (now (self .entry)))) (textOf (scanMeaning (now (self .entry))) number)) ⌝ }
     {
         let row = self.rows[number as usize - 1];
-        row.on && is_falsified(self.trail.entries(), text_at(self.places, row.start, row.length))
+        row.on
+            && is_falsified(
+                self.trail.entries(),
+                text_at(self.places, row.start, row.length),
+            )
     }
 
     /// The literal that a text forces, if it is on.
@@ -34,7 +38,10 @@ impl<'a> Scanning<'a> {
     {
         let row = self.rows[number as usize - 1];
         if row.on {
-            forced_by(self.trail.entries(), text_at(self.places, row.start, row.length))
+            forced_by(
+                self.trail.entries(),
+                text_at(self.places, row.start, row.length),
+            )
         } else {
             None
         }

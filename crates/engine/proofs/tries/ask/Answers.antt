@@ -53,8 +53,7 @@ pub loop-again : need.loop-again
 loop-again g c =
     let m = g .E·Engine .meaning (c .args .engine .now) in
     let n = g .E·Engine .meaning (c .loop .engine) in
-    let said = c .in-Forced .ensures tt in
-    (
+    let said = c .in-Forced .ensures tt in (
       goes-on m n (c .loop .inv .0) (c .in-Forced .literal) (c .in-Forced .number) (g .E·Engine .meaning (c .next .last .engine)) (said .says) (said .does),
       ap (λ (x : Meaning). x .opened) (said .does) ∙ c .loop .inv .1,
       said .stays,

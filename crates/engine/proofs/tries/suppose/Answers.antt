@@ -24,8 +24,7 @@ assume-requires g c κs =
 pub loop-literal-again : need.loop-literal-again
 loop-literal-again g c =
     let m = g .E·Engine .meaning (c .args .engine .now) in
-    let n = g .E·Engine .meaning (c .loop-literal .engine) in
-    (
+    let n = g .E·Engine .meaning (c .loop-literal .engine) in (
       step-done m (c .args .clause .now) (c .loop-literal .literal-index) nobody (c .loop-literal-test .taken) n (c .complement .result) (c .loop-literal .inv .0) (c .complement .ensures) (g .E·Engine .meaning (c .assume .last .engine)) (c .assume .ensures .does),
       c .assume .ensures .stays,
     )
