@@ -89,6 +89,7 @@ impl<'a> Scanning<'a> {
             None => Answer::Nothing,
         }
     }
+
     /// Counts an answer.
     fn count(&mut self)
         requires { ⌜ Shaped (now self) ⌝ }

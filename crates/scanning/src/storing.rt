@@ -29,7 +29,7 @@ impl<'a> Scanning<'a> {
 
     /// Turns a text on or off.
     pub(crate) fn set_mark(&mut self, number: u16, on: bool)
-        requires shaped { ⌜ ScanSound (now self) ⌝ }
+        requires sound { ⌜ ScanSound (now self) ⌝ }
         requires number { ⌜ 1 ≤ number ⌝ ∗ ⌜ number ≤ now self .«text_count» ⌝ }
         ensures means { λ _. ⌜ scanMeaning (now (self .exit)) ≡ withMark number on (scanMeaning (now (self .entry))) ⌝ }
         ensures shaped { λ _. ⌜ Shaped (now (self .exit)) ⌝ }
@@ -38,7 +38,7 @@ impl<'a> Scanning<'a> {
     }
 
     /// Whether there is room for a text of so many literals.
-    pub(crate) fn has_room(&self, count: usize) -> bool
+    fn has_room(&self, count: usize) -> bool
         requires sound { ⌜ ScanSound (now self) ⌝ }
         requires few { ⌜ count ≤ 512 ⌝ }
         ensures { λ r. ⌜ not r ≡ noRoom (scanMeaning (now (self .entry))) count ⌝ }
@@ -59,7 +59,7 @@ impl<'a> Scanning<'a> {
     }
 
     /// Adds a text for which there is room.
-    pub(crate) fn store(&mut self, text: &[Literal])
+    fn store(&mut self, text: &[Literal])
         requires sound { ⌜ ScanSound (now self) ⌝ }
         requires room { ⌜ now self .«text_count» < now self .«text_limit» ⌝ ∗ ⌜ now self .«literal_count» + length (now text) ≤ now self .«literal_limit» ⌝ }
         ensures means { λ _. ⌜ scanMeaning (now (self .exit)) ≡ withText (now (text .entry)) (scanMeaning (now (self .entry))) ⌝ }
@@ -77,6 +77,7 @@ impl<'a> Scanning<'a> {
         self.text_count += 1;
         self.literal_count = start + length;
     }
+
     /// Adds a text, unless its literals make no clause or there is no room for it.
     pub(crate) fn add(&mut self, literals: &[Literal]) -> Result<(), EngineFault>
         requires sound { ⌜ ScanSound (now self) ⌝ }
