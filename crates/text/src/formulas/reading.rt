@@ -126,7 +126,7 @@ impl<'a> FormulaReader<'a> {
     }
 
     /// Begins a clause.
-    fn begin(&mut self)
+    fn start_clause(&mut self)
         requires { ⌜ 0 < now self .remaining ⌝ }
         ensures state { λ _. ⌜ stateOf (now (self .exit)) ≡ inside (now (self .entry) .variables) (now (self .entry) .remaining - 1) (Ok []) ⌝ }
         ensures position { λ _. ⌜ now (self .exit) .position ≡ Inside ⌝ }
@@ -149,7 +149,7 @@ impl<'a> FormulaReader<'a> {
             Word::End => Err(TextFault::Count { place }),
             Word::Name(_) => Err(TextFault::Word { place }),
             Word::Number(w) => {
-                self.begin();
+                self.start_clause();
                 self.take_number(w, place)
             }
         }

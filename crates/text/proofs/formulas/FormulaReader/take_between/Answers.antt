@@ -19,7 +19,7 @@ returns-in-Number c =
     let v = r .variables in
     let n = r .remaining in
     let some : 0 < n = omega arith in
-    let begun = c .begin .ensures .state in
+    let begun = c .start-clause .ensures .state in
     let from = ap (λ s. moved s (number w) p) begun in
     let was = ap (λ q. standing q v n (outcome (r .draft))) (c .pre) in
     let whole = begins v n w p some ∙ ap (λ s. moved s (number w) p) (sym was) ∙ ap (λ s. moved (stateOf r) s p) (sym (ap shapeOf (c .in-Number .is))) in
@@ -28,12 +28,12 @@ returns-in-Number c =
         answer = c .take-number .ensures .takes .answer ∙ from ∙ whole;
         state =
             c .take-number .ensures .takes .state
-            ∙ ap (λ m. settled m (stateOf (c .begin .last .self))) from
-            ∙ begins-settled v (n - 1) w p (stateOf (c .begin .last .self)) (stateOf r)
+            ∙ ap (λ m. settled m (stateOf (c .start-clause .last .self))) from
+            ∙ begins-settled v (n - 1) w p (stateOf (c .start-clause .last .self)) (stateOf r)
             ∙ ap (λ m. settled m (stateOf r)) whole;
       };
       words = record {
-        words = c .take-number .ensures .words .words ∙ c .begin .ensures .words .words;
-        extent = c .take-number .ensures .words .extent ∙ c .begin .ensures .words .extent;
+        words = c .take-number .ensures .words .words ∙ c .start-clause .ensures .words .words;
+        extent = c .take-number .ensures .words .extent ∙ c .start-clause .ensures .words .extent;
       };
     }
