@@ -1,5 +1,8 @@
+pub mod Members
 pub mod Noting
 pub mod Counted
 pub mod Supposing
 pub mod Asking
 pub mod Trying
+pub mod Seeing
+pub mod Gathering

@@ -25,14 +25,14 @@ impl Answers {
     }
 
     /// Forgets all answers.
-    pub fn clear(&mut self)
+    pub(crate) fn clear(&mut self)
         ensures { λ _. ⌜ latest (now (self .exit)) ≡ [] ⌝ }
     {
         self.len = 0;
     }
 
     /// Notes an answer.
-    pub fn push(&mut self, forced: Forced)
+    pub(crate) fn push(&mut self, forced: Forced)
         requires { ⌜ length (latest (now self)) < 512 ⌝ }
         ensures { λ _. ⌜ latest (now (self .exit)) ≡ forced ∷ latest (now (self .entry)) ⌝ }
     {
@@ -41,14 +41,14 @@ impl Answers {
     }
 
     /// How many answers there are.
-    pub fn len(&self) -> usize
+    pub(crate) fn len(&self) -> usize
         ensures { λ r. ⌜ r ≡ now (self .entry) .len ⌝ }
     {
         self.len
     }
 
     /// The answer at this place, of which the oldest has place 0.
-    pub fn at(&self, place: usize) -> Forced
+    pub(crate) fn at(&self, place: usize) -> Forced
         requires { ⌜ place < now self .len ⌝ }
         ensures { λ r. ⌜ r ≡ getD (now (self .entry) .entries) place blank ⌝ }
     {
