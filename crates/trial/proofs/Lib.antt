@@ -1,5 +1,5 @@
-pub mod Members
 pub mod Noting
+pub mod Members
 pub mod Counted
 pub mod Supposing
 pub mod Asking
