@@ -6,6 +6,7 @@ use Prim.Native.Nat.{ℕ, suc, _+_, _<_, min}
 use native.Mathlib.Omega.{arith}
 use lib.ListN.{length}
 use Rattle.std.proofs.shelf.Lists.{map-push}
+use Rattle.std.specs.declared.option.Option.the-variants.{Some, None}
 use Rattle.cnf.specs.declared.literals.Literal.{Literal}
 use Rattle.cnf.specs.Literals.{complement}
 use Rattle.cnf.specs.Clauses.{Clause, _∈_}
@@ -19,8 +20,9 @@ use Rattle.engine.specs.declared.answers.Answer.{Answer}
 use Rattle.engine.specs.declared.answers.Answer.the-variants.{Conflict, Forced, Nothing}
 use Rattle.engine.specs.Meaning.{Meaning, highest, most, On, textOf, values, valuesOf, entry, withTrail, Says, answered, WellFormed}
 use Rattle.engine.proofs.Keeping.{on-clause}
+use Rattle.trial.specs.declared.ends.TrialEnd.{TrialEnd}
 use Rattle.trial.specs.declared.ends.TrialEnd.the-variants.{Conflict as ConflictAt, Nothing as NothingMore}
-use Rattle.trial.specs.Trying.{onTrail, countedBy, EndsRight}
+use Rattle.trial.specs.Trying.{onTrail, forced, notedBy, endOf, RoomFor, countedBy, EndsRight}
 use Rattle.trial.proofs.Counted.{up-none, up-once}
 
 -- two lists with the same elements
@@ -73,10 +75,6 @@ same-trail before (f ∷ earlier) =
           ]);
     }
 
--- the answer that a text forces a literal
-abbrev pub forced : Literal → ℕ → Answered
-forced l n = record { literal = l; number = n }
-
 -- before the first question
 pub at-start : (m : Meaning) → WellFormed m → m ≡ withTrail (m .trail) (countedBy 0 m)
 at-start m well = λ i. record { texts = m .texts; on = m .on; trail = m .trail; opened = m .opened; answers = up-none (m .answers) (well .countable) i; textLimit = m .textLimit; literalLimit = m .literalLimit }
@@ -88,48 +86,85 @@ module _ (m : Meaning) (answers : List Answered) (before : Meaning)
   as-said : (a : Answer) → Says before a → Says (withTrail (onTrail (m .trail) answers) (countedBy (length answers) m)) a
   as-said a s = subst (λ (x : Meaning). Says x a) b s
 
-  module _ (l : Literal) (n : ℕ) (s : Says before (Forced l n)) where
-    -- one more is right
-    pub right-more : RightOver (On m) (textOf m) (values m) (forced l n ∷ answers)
-    right-more =
-        let s′ = as-said (Forced l n) s in
-        (s′ .0, same-forces _ _ (same-trail (m .trail) answers) _ l (s′ .1), right)
+  right-more : (l : Literal) (n : ℕ) → Says before (Forced l n) → RightOver (On m) (textOf m) (values m) (forced l n ∷ answers)
+  right-more l n s =
+      let s′ = as-said (Forced l n) s in
+      (s′ .0, same-forces _ _ (same-trail (m .trail) answers) _ l (s′ .1), right)
 
-    -- and there is a place for it, since its variable is new
-    pub room : WellFormed m → length answers < 512
-    room well =
-        let h = asked-few highest (On m) (textOf m) (values m) (λ j o. on-clause m well j o .within) (forced l n ∷ answers) right-more in
-        omega arith
+  -- there is a place for a literal that is forced, since its variable is new
+  pub room : WellFormed m → (a : Answer) → Says before a → RoomFor a answers
+  room well (Conflict n) s = tt
+  room well (Forced l n) s =
+      let h = asked-few highest (On m) (textOf m) (values m) (λ j o. on-clause m well j o .within) (forced l n ∷ answers) (right-more l n s) in
+      omega arith
+  room well Nothing s = tt
 
-    pub after-forced : (after : Meaning) → after ≡ answered before (Forced l n)
-        → after ≡ withTrail (onTrail (m .trail) (forced l n ∷ answers)) (countedBy (suc (length answers)) m)
-    after-forced after a =
-        a
-        ∙ ap (λ (x : Meaning). answered x (Forced l n)) b
-        ∙ ap (λ (k : ℕ). record { texts = m .texts; on = m .on; trail = onTrail (m .trail) (forced l n ∷ answers); opened = m .opened; answers = k; textLimit = m .textLimit; literalLimit = m .literalLimit })
-        (up-once (m .answers) (length answers))
+  -- how it goes on
+  module _ (a : Answer) (s : Says before a) (none : endOf a ≡ None) where
+    pub still-right : RightOver (On m) (textOf m) (values m) (notedBy a answers)
+    still-right = by a s none
+      where
+        by : (a : Answer) → Says before a → endOf a ≡ None → RightOver (On m) (textOf m) (values m) (notedBy a answers)
+        by (Conflict n) s e = let z : _≡_ {A = ℕ} 0 1 = cc in absurd (omega arith)
+        by (Forced l n) s e = right-more l n s
+        by Nothing s e = let z : _≡_ {A = ℕ} 0 1 = cc in absurd (omega arith)
 
-  -- the last answer is counted too
-  once-more : withTrail (onTrail (m .trail) answers) (countedBy (asked answers) m) ≡ record { texts = m .texts; on = m .on; trail = onTrail (m .trail) answers; opened = m .opened; answers = min (min (m .answers + length answers) most + 1) most; textLimit = m .textLimit; literalLimit = m .literalLimit }
-  once-more = ap (λ (k : ℕ). record { texts = m .texts; on = m .on; trail = onTrail (m .trail) answers; opened = m .opened; answers = k; textLimit = m .textLimit; literalLimit = m .literalLimit }) (sym (up-once (m .answers) (length answers)))
+    pub one-longer : length (notedBy a answers) ≡ suc (length answers)
+    one-longer = by a none
+      where
+        by : (a : Answer) → endOf a ≡ None → length (notedBy a answers) ≡ suc (length answers)
+        by (Conflict n) e = let z : _≡_ {A = ℕ} 0 1 = cc in absurd (omega arith)
+        by (Forced l n) e = refl
+        by Nothing e = let z : _≡_ {A = ℕ} 0 1 = cc in absurd (omega arith)
 
-  pub after-conflict : (n : ℕ) (after : Meaning) → after ≡ answered before (Conflict n) → after ≡ withTrail (onTrail (m .trail) answers) (countedBy (asked answers) m)
-  after-conflict n after a = a ∙ ap (λ (x : Meaning). answered x (Conflict n)) b ∙ sym once-more
+    pub fell : WellFormed m → length answers < 512
+    fell well = by a (room well a s) none
+      where
+        by : (a : Answer) → RoomFor a answers → endOf a ≡ None → length answers < 512
+        by (Conflict n) r e = let z : _≡_ {A = ℕ} 0 1 = cc in absurd (omega arith)
+        by (Forced l n) r e = r
+        by Nothing r e = let z : _≡_ {A = ℕ} 0 1 = cc in absurd (omega arith)
 
-  pub after-nothing : (after : Meaning) → after ≡ answered before Nothing → after ≡ withTrail (onTrail (m .trail) answers) (countedBy (asked answers) m)
-  after-nothing after a = a ∙ ap (λ (x : Meaning). answered x Nothing) b ∙ sym once-more
+  -- what an engine stands for with another trail and another count
+  abbrev shown : (trail : List Entry) → ℕ → Meaning
+  shown t k = record { texts = m .texts; on = m .on; trail = t; opened = m .opened; answers = k; textLimit = m .textLimit; literalLimit = m .literalLimit }
 
-  pub at-conflict : (n : ℕ) → Says before (Conflict n) → EndsRight m (values m) answers (ConflictAt n)
-  at-conflict n s =
-      let s′ = as-said (Conflict n) s in
-      record { right = right; live = s′ .0; false-there = same-falsified _ _ (same-trail (m .trail) answers) _ (s′ .1) }
+  -- an engine after an answer
+  pub after-answer : (a : Answer) (after : Meaning) → after ≡ answered before a
+      → after ≡ withTrail (onTrail (m .trail) (notedBy a answers)) (countedBy (suc (length answers)) m)
+  after-answer a after e = e ∙ ap (λ (x : Meaning). answered x a) b ∙ by a
+    where
+      by : (a : Answer) → answered (withTrail (onTrail (m .trail) answers) (countedBy (length answers) m)) a
+          ≡ withTrail (onTrail (m .trail) (notedBy a answers)) (countedBy (suc (length answers)) m)
+      by (Conflict n) = ap (shown (onTrail (m .trail) answers)) (up-once (m .answers) (length answers))
+      by (Forced l n) = ap (shown (onTrail (m .trail) (forced l n ∷ answers))) (up-once (m .answers) (length answers))
+      by Nothing = ap (shown (onTrail (m .trail) answers)) (up-once (m .answers) (length answers))
 
-  pub at-nothing : Says before Nothing → EndsRight m (values m) answers NothingMore
-  at-nothing s =
-      let s′ = as-said Nothing s in
-      let back = swapped (same-trail (m .trail) answers) in
-      record {
-        right = right;
-        none-false = λ n o f. s′ .0 n o (same-falsified _ _ back _ f);
-        none-forces = λ n l o f. s′ .1 n l o (same-forces _ _ back _ l f);
-      }
+  -- how it ends
+  module _ (a : Answer) (end : TrialEnd) (e : endOf a ≡ Some end) where
+    pub none-noted : notedBy a answers ≡ answers
+    none-noted = by a e
+      where
+        by : (a : Answer) → endOf a ≡ Some end → notedBy a answers ≡ answers
+        by (Conflict n) e = refl
+        by (Forced l n) e = let z : _≡_ {A = ℕ} 0 1 = cc in absurd (omega arith)
+        by Nothing e = refl
+
+    pub ends-right : Says before a → EndsRight m (values m) answers end
+    ends-right s = by a e (as-said a s)
+      where
+        by : (a : Answer) → endOf a ≡ Some end → Says (withTrail (onTrail (m .trail) answers) (countedBy (length answers) m)) a → EndsRight m (values m) answers end
+        by (Conflict n) e s =
+            let same : ConflictAt n ≡ end = cc in
+            subst (EndsRight m (values m) answers) same
+            (record { right = right; live = s .0; false-there = same-falsified _ _ (same-trail (m .trail) answers) _ (s .1) })
+        by (Forced l n) e s = let z : _≡_ {A = ℕ} 0 1 = cc in absurd (omega arith)
+        by Nothing e s =
+            let back = swapped (same-trail (m .trail) answers) in
+            let same : NothingMore ≡ end = cc in
+            subst (EndsRight m (values m) answers) same
+            (record {
+              right = right;
+              none-false = λ n o f. s .0 n o (same-falsified _ _ back _ f);
+              none-forces = λ n l o f. s .1 n l o (same-forces _ _ back _ l f);
+            })

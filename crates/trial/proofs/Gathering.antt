@@ -55,21 +55,21 @@ module _ (clauses : List Clause) (answers : List Forced) where
 
   -- one answer back
   module _ (goal : List ℕ) (left k : ℕ) (e : left ≡ suc k) (s : Seen) (row : List ℕ) (inv : Gathers clauses answers goal left s row)
-      (f : Forced) (at : f ≡ getD answers k blank) (l : Literal) (q : l ≡ complement (f .literal)) where
-    one-back : (b : Bool) → sees s l ≡ b → gathered (textIn clauses) (latestOf answers k) (cond b (f .number ∷ row) row) ≡ goal
+      (f : Forced) (at : f ≡ getD answers k blank) where
+    one-back : (b : Bool) → sees s (complement (f .literal)) ≡ b → gathered (textIn clauses) (latestOf answers k) (cond b (f .number ∷ row) row) ≡ goal
     one-back b p =
         ap (λ (x : Bool). gathered (textIn clauses) (latestOf answers k) (cond x (f .number ∷ row) row))
-        (sym p ∙ ap (sees s) q ∙ inv .0 (complement (f .literal)))
+        (sym p ∙ inv .0 (complement (f .literal)))
         ∙ ap (λ (x : Forced). gathered (textIn clauses) (latestOf answers k) (cond (standsIn (complement (x .literal)) (map (textIn clauses) row)) (x .number ∷ row) row)) at
         ∙ ap (λ (j : ℕ). gathered (textIn clauses) (latestOf answers j) row) (sym e)
         ∙ inv .1
 
     -- its clause is left out
-    pub gather-past : sees s l ≡ false → Gathers clauses answers goal k s row
+    pub gather-past : sees s (complement (f .literal)) ≡ false → Gathers clauses answers goal k s row
     gather-past p = let room = inv .2 in (inv .0, one-back false p, omega arith)
 
     -- or put ahead
-    pub gather-in : sees s l ≡ true → (c : Clause) (s′ : Seen) (row′ : List ℕ) → row′ ≡ f .number ∷ row → c ≡ textIn clauses (f .number)
+    pub gather-in : sees s (complement (f .literal)) ≡ true → (c : Clause) (s′ : Seen) (row′ : List ℕ) → row′ ≡ f .number ∷ row → c ≡ textIn clauses (f .number)
         → ((j : Literal) → sees s′ j ≡ (holds j c || sees s j)) → Gathers clauses answers goal k s′ row′
     gather-in p c s′ row′ one text more =
         let room = inv .2 in

@@ -6,7 +6,7 @@ ghost use Rattle.cnf.specs.Literals.{complement};
 ghost use Rattle.drup.specs.Backward.{asked};
 ghost use Rattle.engine.specs.Meaning.{withTrail, values, Consistent};
 ghost use Rattle.trial.specs.Noted.{latest};
-ghost use Rattle.trial.specs.Trying.{supposed, onTrail, countedBy, EndsRight};
+ghost use Rattle.trial.specs.Trying.{supposed, onTrail, notedBy, endOf, RoomFor, countedBy, EndsRight};
 use crate::answers::Answers;
 use crate::calls::assume_literal;
 use crate::calls::end_trial;
@@ -33,6 +33,22 @@ fn suppose<E: Engine>(engine: &mut E, trial: &Trial, literals: &[Literal])
     }
 }
 
+/// Notes a literal that is forced. Any other answer ends the trial.
+fn note(answers: &mut Answers, answer: Answer) -> Option<TrialEnd>
+    requires { ⌜ RoomFor answer (latest (now answers)) ⌝ }
+    ensures noted { λ _. ⌜ latest (now (answers .exit)) ≡ notedBy answer (latest (now (answers .entry))) ⌝ }
+    ensures ends { λ r. ⌜ r ≡ endOf answer ⌝ }
+{
+    match answer {
+        Answer::Conflict(number) => Some(TrialEnd::Conflict(number)),
+        Answer::Nothing => Some(TrialEnd::Nothing),
+        Answer::Forced { literal, number } => {
+            answers.push(Forced { literal, number });
+            None
+        }
+    }
+}
+
 /// Asks until there is a conflict or nothing more, and notes each literal that is forced.
 fn ask<E: Engine>(engine: &mut E, trial: &Trial, answers: &mut Answers) -> TrialEnd
     requires sound { ⌜ E·Engine .sound (now engine) ⌝ }
@@ -43,10 +59,9 @@ fn ask<E: Engine>(engine: &mut E, trial: &Trial, answers: &mut Answers) -> Trial
 {
     answers.clear();
     loop {
-        match next_answer(engine, trial) {
-            Answer::Conflict(number) => return TrialEnd::Conflict(number),
-            Answer::Nothing => return TrialEnd::Nothing,
-            Answer::Forced { literal, number } => answers.push(Forced { literal, number }),
+        let answer = next_answer(engine, trial);
+        if let Some(end) = note(answers, answer) {
+            return end;
         }
     }
 }

@@ -30,6 +30,6 @@ impl Antecedents {
     pub fn numbers(&self) -> &[u16]
         ensures { λ r. ⌜ now r ≡ numbersOf (now (self .entry)) ⌝ }
     {
-        &self.table[self.start..]
+        self.table.split_at(self.start).1
     }
 }

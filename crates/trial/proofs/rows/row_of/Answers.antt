@@ -1,8 +1,7 @@
-use mathlib.Core.Path.{_≡_, sym, _∙_, ap}
+use mathlib.Core.Path.{_≡_, sym, _∙_}
 use mathlib.Core.List.{[], _∷_}
 use Prim.Native.Nat.{suc, _-_, _≤_, _<_}
 use native.Mathlib.Omega.{arith}
-use Rattle.cnf.specs.declared.literals.Literal.{Literal}
 use Rattle.drup.specs.Backward.{gathered}
 use Rattle.engine.specs.Meaning.{textIn}
 use Rattle.trial.specs.Noted.{latest}
@@ -20,32 +19,30 @@ loop-i-holds g c =
     (c .new-seen .result) (c .add-clause .last .self) (numbersOf (c .new-row .result)) (numbersOf (c .push-front .last .self)) (c .clause .result .now)
     (c .len-i .ensures) (c .args .answers .now .tidy) (c .new-seen .ensures) (c .new-row .ensures) (c .push-front .ensures) (c .clause .ensures) (c .add-clause .ensures)
 
-pub has-requires : need.has-requires
-has-requires g c κs =
-    let known = known-at (g .T·Texts .clauses (c .args .texts .now)) (c .args .answers .now) (c .pre .known) (c .loop-i .i - 1) (omega arith) (c .at-forced .result) (c .at-forced .ensures) in
-    let same = ap (λ (l : Literal). l .variable) (c .complement .ensures) in
-    omega (arith, known .1)
+pub enters-requires : need.enters-requires
+enters-requires g c κs =
+    known-at (g .T·Texts .clauses (c .args .texts .now)) (c .args .answers .now) (c .pre .known) (c .loop-i .i - 1) (omega arith) (c .at-forced .result) (c .at-forced .ensures) .1
 
-pub clause-requires-then-has : need.clause-requires-then-has
-clause-requires-then-has g c κs =
+pub clause-requires-then-enters : need.clause-requires-then-enters
+clause-requires-then-enters g c κs =
     let known = known-at (g .T·Texts .clauses (c .args .texts .now)) (c .args .answers .now) (c .pre .known) (c .loop-i .i - 1) (omega arith) (c .at-forced .result) (c .at-forced .ensures) in
     record { kept = c .pre .kept; numbered = known .0 }
 
-pub add-clause-requires-then-has : need.add-clause-requires-then-has
-add-clause-requires-then-has g c κs =
+pub add-clause-requires-then-enters : need.add-clause-requires-then-enters
+add-clause-requires-then-enters g c κs =
     let clauses = g .T·Texts .clauses (c .args .texts .now) in
     let known = known-at clauses (c .args .answers .now) (c .pre .known) (c .loop-i .i - 1) (omega arith) (c .at-forced .result) (c .at-forced .ensures) in
-    clause-within clauses (c .at-forced .result .number) (c .clause-then-has .result .now) (c .clause-then-has .ensures) (c .pre .within) (known .0)
+    clause-within clauses (c .at-forced .result .number) (c .clause-then-enters .result .now) (c .clause-then-enters .ensures) (c .pre .within) (known .0)
 
-pub loop-i-again-then-has : need.loop-i-again-then-has
-loop-i-again-then-has g c =
+pub loop-i-again-then-enters : need.loop-i-again-then-enters
+loop-i-again-then-enters g c =
     let a = c .args .answers .now in
     let k = c .loop-i .i - 1 in
     let clauses = g .T·Texts .clauses (c .args .texts .now) in
     let e : c .loop-i .i ≡ suc k = omega arith in
     gather-in clauses (a .entries) (gathered (textIn clauses) (latest a) (c .args .conflict ∷ [])) (c .loop-i .i) k e (c .loop-i .seen) (numbersOf (c .loop-i .row)) (c .loop-i .inv)
-    (c .at-forced .result) (c .at-forced .ensures) (c .complement .result) (c .complement .ensures) (sym (c .has .ensures) ∙ c .if-has .taken)
-    (c .clause-then-has .result .now) (c .add-clause-then-has .last .self) (numbersOf (c .push-front-then-has .last .self)) (c .push-front-then-has .ensures) (c .clause-then-has .ensures) (c .add-clause-then-has .ensures)
+    (c .at-forced .result) (c .at-forced .ensures) (sym (c .enters .ensures) ∙ c .if-enters .taken)
+    (c .clause-then-enters .result .now) (c .add-clause-then-enters .last .self) (numbersOf (c .push-front-then-enters .last .self)) (c .push-front-then-enters .ensures) (c .clause-then-enters .ensures) (c .add-clause-then-enters .ensures)
 
 pub loop-i-again : need.loop-i-again
 loop-i-again g c =
@@ -54,4 +51,4 @@ loop-i-again g c =
     let clauses = g .T·Texts .clauses (c .args .texts .now) in
     let e : c .loop-i .i ≡ suc k = omega arith in
     gather-past clauses (a .entries) (gathered (textIn clauses) (latest a) (c .args .conflict ∷ [])) (c .loop-i .i) k e (c .loop-i .seen) (numbersOf (c .loop-i .row)) (c .loop-i .inv)
-    (c .at-forced .result) (c .at-forced .ensures) (c .complement .result) (c .complement .ensures) (sym (c .has .ensures) ∙ c .if-has .left)
+    (c .at-forced .result) (c .at-forced .ensures) (sym (c .enters .ensures) ∙ c .if-enters .left)
