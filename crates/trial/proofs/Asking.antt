@@ -2,7 +2,7 @@
 use mathlib.Core.Path.{_≡_, refl, sym, _∙_, ap, subst}
 use mathlib.Core.Logic.{inl, inr}
 use mathlib.Core.List.{List, [], _∷_, _++_, List·Memᴰ·head as here, List·Memᴰ·tail as there, List·Memᴰ·cases-cons as in-cons}
-use Prim.Native.Nat.{ℕ, suc, _+_, _<_, min}
+use Prim.Native.Nat.{ℕ, suc, _<_}
 use native.Mathlib.Omega.{arith}
 use lib.ListN.{length}
 use Rattle.std.proofs.shelf.Lists.{map-push}
@@ -18,7 +18,7 @@ use Rattle.drup.proofs.Short.{asked-few}
 use Rattle.engine.specs.declared.answers.Entry.{Entry}
 use Rattle.engine.specs.declared.answers.Answer.{Answer}
 use Rattle.engine.specs.declared.answers.Answer.the-variants.{Conflict, Forced, Nothing}
-use Rattle.engine.specs.Meaning.{Meaning, highest, most, On, textOf, values, valuesOf, entry, withTrail, Says, answered, WellFormed}
+use Rattle.engine.specs.Meaning.{Meaning, highest, On, textOf, values, valuesOf, entry, withTrail, Says, answered, WellFormed}
 use Rattle.engine.proofs.Keeping.{on-clause}
 use Rattle.trial.specs.declared.ends.TrialEnd.{TrialEnd}
 use Rattle.trial.specs.declared.ends.TrialEnd.the-variants.{Conflict as ConflictAt, Nothing as NothingMore}
@@ -75,21 +75,25 @@ same-trail before (f ∷ earlier) =
           ]);
     }
 
+-- what an engine stands for once it has forced these literals, and that it was right to
+abbrev pub Asked : Meaning → List Answered → (during : Meaning) → Type 0
+Asked m answers during =
+    (during ≡ withTrail (onTrail (m .trail) answers) (countedBy (length answers) m)) × RightOver (On m) (textOf m) (values m) answers
+
 -- before the first question
-pub at-start : (m : Meaning) → WellFormed m → m ≡ withTrail (m .trail) (countedBy 0 m)
-at-start m well = λ i. record { texts = m .texts; on = m .on; trail = m .trail; opened = m .opened; answers = up-none (m .answers) (well .countable) i; textLimit = m .textLimit; literalLimit = m .literalLimit }
+pub at-start : (m : Meaning) → WellFormed m → Asked m [] m
+at-start m well =
+    ((λ i. record { texts = m .texts; on = m .on; trail = m .trail; opened = m .opened; answers = up-none (m .answers) (well .countable) i; textLimit = m .textLimit; literalLimit = m .literalLimit }), tt)
 
 -- after these answers
-module _ (m : Meaning) (answers : List Answered) (before : Meaning)
-    (b : before ≡ withTrail (onTrail (m .trail) answers) (countedBy (length answers) m))
-    (right : RightOver (On m) (textOf m) (values m) answers) where
+module _ (m : Meaning) (answers : List Answered) (before : Meaning) (so-far : Asked m answers before) where
   as-said : (a : Answer) → Says before a → Says (withTrail (onTrail (m .trail) answers) (countedBy (length answers) m)) a
-  as-said a s = subst (λ (x : Meaning). Says x a) b s
+  as-said a s = subst (λ (x : Meaning). Says x a) (so-far .0) s
 
   right-more : (l : Literal) (n : ℕ) → Says before (Forced l n) → RightOver (On m) (textOf m) (values m) (forced l n ∷ answers)
   right-more l n s =
       let s′ = as-said (Forced l n) s in
-      (s′ .0, same-forces _ _ (same-trail (m .trail) answers) _ l (s′ .1), right)
+      (s′ .0, same-forces _ _ (same-trail (m .trail) answers) _ l (s′ .1), so-far .1)
 
   -- there is a place for a literal that is forced, since its variable is new
   pub room : WellFormed m → (a : Answer) → Says before a → RoomFor a answers
@@ -99,72 +103,57 @@ module _ (m : Meaning) (answers : List Answered) (before : Meaning)
       omega arith
   room well Nothing s = tt
 
-  -- how it goes on
-  module _ (a : Answer) (s : Says before a) (none : endOf a ≡ None) where
-    pub still-right : RightOver (On m) (textOf m) (values m) (notedBy a answers)
-    still-right = by a s none
-      where
-        by : (a : Answer) → Says before a → endOf a ≡ None → RightOver (On m) (textOf m) (values m) (notedBy a answers)
-        by (Conflict n) s e = let z : _≡_ {A = ℕ} 0 1 = cc in absurd (omega arith)
-        by (Forced l n) s e = right-more l n s
-        by Nothing s e = let z : _≡_ {A = ℕ} 0 1 = cc in absurd (omega arith)
-
-    pub one-longer : length (notedBy a answers) ≡ suc (length answers)
-    one-longer = by a none
-      where
-        by : (a : Answer) → endOf a ≡ None → length (notedBy a answers) ≡ suc (length answers)
-        by (Conflict n) e = let z : _≡_ {A = ℕ} 0 1 = cc in absurd (omega arith)
-        by (Forced l n) e = refl
-        by Nothing e = let z : _≡_ {A = ℕ} 0 1 = cc in absurd (omega arith)
-
-    pub fell : WellFormed m → length answers < 512
-    fell well = by a (room well a s) none
-      where
-        by : (a : Answer) → RoomFor a answers → endOf a ≡ None → length answers < 512
-        by (Conflict n) r e = let z : _≡_ {A = ℕ} 0 1 = cc in absurd (omega arith)
-        by (Forced l n) r e = r
-        by Nothing r e = let z : _≡_ {A = ℕ} 0 1 = cc in absurd (omega arith)
-
-  -- what an engine stands for with another trail and another count
-  abbrev shown : (trail : List Entry) → ℕ → Meaning
-  shown t k = record { texts = m .texts; on = m .on; trail = t; opened = m .opened; answers = k; textLimit = m .textLimit; literalLimit = m .literalLimit }
-
-  -- an engine after an answer
-  pub after-answer : (a : Answer) (after : Meaning) → after ≡ answered before a
-      → after ≡ withTrail (onTrail (m .trail) (notedBy a answers)) (countedBy (suc (length answers)) m)
-  after-answer a after e = e ∙ ap (λ (x : Meaning). answered x a) b ∙ by a
+  -- the engine after an answer, which is counted
+  after-answer : (a : Answer) (after : Meaning) → after ≡ answered before a
+      → after ≡ withTrail (onTrail (m .trail) (notedBy a answers)) (countedBy (asked answers) m)
+  after-answer a after e = e ∙ ap (λ (x : Meaning). answered x a) (so-far .0) ∙ by a
     where
+      shown : List Entry → ℕ → Meaning
+      shown t k = record { texts = m .texts; on = m .on; trail = t; opened = m .opened; answers = k; textLimit = m .textLimit; literalLimit = m .literalLimit }
+
       by : (a : Answer) → answered (withTrail (onTrail (m .trail) answers) (countedBy (length answers) m)) a
-          ≡ withTrail (onTrail (m .trail) (notedBy a answers)) (countedBy (suc (length answers)) m)
+          ≡ withTrail (onTrail (m .trail) (notedBy a answers)) (countedBy (asked answers) m)
       by (Conflict n) = ap (shown (onTrail (m .trail) answers)) (up-once (m .answers) (length answers))
       by (Forced l n) = ap (shown (onTrail (m .trail) (forced l n ∷ answers))) (up-once (m .answers) (length answers))
       by Nothing = ap (shown (onTrail (m .trail) answers)) (up-once (m .answers) (length answers))
 
-  -- how it ends
-  module _ (a : Answer) (end : TrialEnd) (e : endOf a ≡ Some end) where
-    pub none-noted : notedBy a answers ≡ answers
-    none-noted = by a e
-      where
-        by : (a : Answer) → endOf a ≡ Some end → notedBy a answers ≡ answers
-        by (Conflict n) e = refl
-        by (Forced l n) e = let z : _≡_ {A = ℕ} 0 1 = cc in absurd (omega arith)
-        by Nothing e = refl
+  -- an answer that ends nothing is noted, and there was a place for it
+  pub goes-on : WellFormed m → (a : Answer) → Says before a → endOf a ≡ None → (noted : List Answered) → noted ≡ notedBy a answers
+      → (after : Meaning) → after ≡ answered before a
+      → Asked m noted after × ((length noted ≡ suc (length answers)) × (length answers < 512))
+  goes-on well (Conflict n) s e noted is after d = let z : _≡_ {A = ℕ} 0 1 = cc in absurd (omega arith)
+  goes-on well (Forced l n) s e noted is after d =
+      (
+        subst (λ (xs : List Answered). Asked m xs after) (sym is) (after-answer (Forced l n) after d, right-more l n s),
+        (ap (λ (xs : List Answered). length xs) is, room well (Forced l n) s),
+      )
+  goes-on well Nothing s e noted is after d = let z : _≡_ {A = ℕ} 0 1 = cc in absurd (omega arith)
 
-    pub ends-right : Says before a → EndsRight m (values m) answers end
-    ends-right s = by a e (as-said a s)
-      where
-        by : (a : Answer) → endOf a ≡ Some end → Says (withTrail (onTrail (m .trail) answers) (countedBy (length answers) m)) a → EndsRight m (values m) answers end
-        by (Conflict n) e s =
-            let same : ConflictAt n ≡ end = cc in
-            subst (EndsRight m (values m) answers) same
-            (record { right = right; live = s .0; false-there = same-falsified _ _ (same-trail (m .trail) answers) _ (s .1) })
-        by (Forced l n) e s = let z : _≡_ {A = ℕ} 0 1 = cc in absurd (omega arith)
-        by Nothing e s =
-            let back = swapped (same-trail (m .trail) answers) in
-            let same : NothingMore ≡ end = cc in
-            subst (EndsRight m (values m) answers) same
-            (record {
-              right = right;
-              none-false = λ n o f. s .0 n o (same-falsified _ _ back _ f);
-              none-forces = λ n l o f. s .1 n l o (same-forces _ _ back _ l f);
-            })
+  -- any other is the last
+  pub comes-out : (a : Answer) (end : TrialEnd) → Says before a → endOf a ≡ Some end → (noted : List Answered) → noted ≡ notedBy a answers
+      → (after : Meaning) → after ≡ answered before a
+      → (after ≡ withTrail (onTrail (m .trail) noted) (countedBy (asked noted) m)) × EndsRight m (values m) noted end
+  comes-out (Conflict n) end s e noted is after d =
+      let s′ = as-said (Conflict n) s in
+      let same : ConflictAt n ≡ end = cc in
+      subst (λ (xs : List Answered). (after ≡ withTrail (onTrail (m .trail) xs) (countedBy (asked xs) m)) × EndsRight m (values m) xs end) (sym is)
+      (
+        after-answer (Conflict n) after d,
+        subst (EndsRight m (values m) answers) same
+        (record { right = so-far .1; live = s′ .0; false-there = same-falsified _ _ (same-trail (m .trail) answers) _ (s′ .1) }),
+      )
+  comes-out (Forced l n) end s e noted is after d = let z : _≡_ {A = ℕ} 0 1 = cc in absurd (omega arith)
+  comes-out Nothing end s e noted is after d =
+      let s′ = as-said Nothing s in
+      let back = swapped (same-trail (m .trail) answers) in
+      let same : NothingMore ≡ end = cc in
+      subst (λ (xs : List Answered). (after ≡ withTrail (onTrail (m .trail) xs) (countedBy (asked xs) m)) × EndsRight m (values m) xs end) (sym is)
+      (
+        after-answer Nothing after d,
+        subst (EndsRight m (values m) answers) same
+        (record {
+          right = so-far .1;
+          none-false = λ n o f. s′ .0 n o (same-falsified _ _ back _ f);
+          none-forces = λ n l o f. s′ .1 n l o (same-forces _ _ back _ l f);
+        }),
+      )

@@ -6,3 +6,4 @@ pub mod Asking
 pub mod Trying
 pub mod Seeing
 pub mod Gathering
+pub mod Allowed

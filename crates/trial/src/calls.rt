@@ -2,9 +2,11 @@
 //! for the crates of the box, which know that.
 ghost use mathlib.Core.Path.{_≡_};
 ghost use mathlib.Core.Bool.{true, false};
+ghost use Prim.Native.Nat.{ℕ};
 ghost use Rattle.std.specs.declared.option.Option.the-variants.{None};
 ghost use Rattle.cnf.specs.Arranging.{arranged};
-ghost use Rattle.engine.specs.Meaning.{shut, noTrial, noPut, noOn, noOff, noAssume, cleared, withText, withMark, withOpened, joinedBy, Says, answered};
+ghost use Rattle.cnf.specs.Clauses.{_∈_};
+ghost use Rattle.engine.specs.Meaning.{shut, noTrial, noPut, noOn, noOff, noAssume, cleared, withText, withMark, withOpened, joinedBy, On, Says, answered};
 use cnf::literals::Literal;
 use engine::answers::Answer;
 use engine::contract::Engine;
@@ -125,5 +127,18 @@ pub fn end_trial<E: Engine>(engine: &mut E, trial: Trial)
     match engine.end(trial) {
         Ok(()) => {}
         Err(_) => unreachable(),
+    }
+}
+
+/// Says of each number that its text, which is on, is in the core. No trial is open.
+pub fn prefer_all<E: Engine>(engine: &mut E, numbers: &[u16])
+    requires sound { ⌜ E·Engine .sound (now engine) ⌝ }
+    requires idle { ⌜ E·Engine .meaning (now engine) .opened ≡ false ⌝ }
+    requires on { ⌜ ((n : ℕ) → n ∈ now numbers → On (E·Engine .meaning (now engine)) n) ⌝ }
+    ensures does { λ _. ⌜ E·Engine .meaning (now (engine .exit)) ≡ E·Engine .meaning (now (engine .entry)) ⌝ }
+    ensures stays { λ _. ⌜ E·Engine .sound (now (engine .exit)) ⌝ }
+{
+    for number in numbers {
+        prefer_text(engine, *number);
     }
 }
