@@ -1,5 +1,5 @@
 -- Asking until there is a conflict or nothing more.
-use mathlib.Core.Path.{_≡_, refl, sym, _∙_, ap, subst}
+use mathlib.Core.Path.{_≡_, sym, _∙_, ap, subst}
 use mathlib.Core.Logic.{inl, inr}
 use mathlib.Core.List.{List, [], _∷_, _++_, List·Memᴰ·head as here, List·Memᴰ·tail as there, List·Memᴰ·cases-cons as in-cons}
 use Prim.Native.Nat.{ℕ, suc, _<_}
@@ -122,11 +122,10 @@ module _ (m : Meaning) (answers : List Answered) (before : Meaning) (so-far : As
       → (after : Meaning) → after ≡ answered before a
       → Asked m noted after × ((length noted ≡ suc (length answers)) × (length answers < 512))
   goes-on well (Conflict n) s e noted is after d = let z : _≡_ {A = ℕ} 0 1 = cc in absurd (omega arith)
-  goes-on well (Forced l n) s e noted is after d =
-      (
-        subst (λ (xs : List Answered). Asked m xs after) (sym is) (after-answer (Forced l n) after d, right-more l n s),
-        (ap (λ (xs : List Answered). length xs) is, room well (Forced l n) s),
-      )
+  goes-on well (Forced l n) s e noted is after d = (
+    subst (λ (xs : List Answered). Asked m xs after) (sym is) (after-answer (Forced l n) after d, right-more l n s),
+    (ap (λ (xs : List Answered). length xs) is, room well (Forced l n) s),
+  )
   goes-on well Nothing s e noted is after d = let z : _≡_ {A = ℕ} 0 1 = cc in absurd (omega arith)
 
   -- any other is the last
@@ -136,24 +135,22 @@ module _ (m : Meaning) (answers : List Answered) (before : Meaning) (so-far : As
   comes-out (Conflict n) end s e noted is after d =
       let s′ = as-said (Conflict n) s in
       let same : ConflictAt n ≡ end = cc in
-      subst (λ (xs : List Answered). (after ≡ withTrail (onTrail (m .trail) xs) (countedBy (asked xs) m)) × EndsRight m (values m) xs end) (sym is)
-      (
+      subst (λ (xs : List Answered). (after ≡ withTrail (onTrail (m .trail) xs) (countedBy (asked xs) m)) × EndsRight m (values m) xs end) (sym is) (
         after-answer (Conflict n) after d,
         subst (EndsRight m (values m) answers) same
-        (record { right = so-far .1; live = s′ .0; false-there = same-falsified _ _ (same-trail (m .trail) answers) _ (s′ .1) }),
+            (record { right = so-far .1; live = s′ .0; false-there = same-falsified _ _ (same-trail (m .trail) answers) _ (s′ .1) }),
       )
   comes-out (Forced l n) end s e noted is after d = let z : _≡_ {A = ℕ} 0 1 = cc in absurd (omega arith)
   comes-out Nothing end s e noted is after d =
       let s′ = as-said Nothing s in
       let back = swapped (same-trail (m .trail) answers) in
       let same : NothingMore ≡ end = cc in
-      subst (λ (xs : List Answered). (after ≡ withTrail (onTrail (m .trail) xs) (countedBy (asked xs) m)) × EndsRight m (values m) xs end) (sym is)
-      (
+      subst (λ (xs : List Answered). (after ≡ withTrail (onTrail (m .trail) xs) (countedBy (asked xs) m)) × EndsRight m (values m) xs end) (sym is) (
         after-answer Nothing after d,
         subst (EndsRight m (values m) answers) same
-        (record {
-          right = so-far .1;
-          none-false = λ n o f. s′ .0 n o (same-falsified _ _ back _ f);
-          none-forces = λ n l o f. s′ .1 n l o (same-forces _ _ back _ l f);
-        }),
+            (record {
+              right = so-far .1;
+              none-false = λ n o f. s′ .0 n o (same-falsified _ _ back _ f);
+              none-forces = λ n l o f. s′ .1 n l o (same-forces _ _ back _ l f);
+            }),
       )

@@ -1,9 +1,8 @@
 -- Counting answers up to where the count stops.
-use mathlib.Core.Path.{_≡_, refl, sym, ap, _∙_}
+use mathlib.Core.Path.{_≡_, ap}
 use Prim.Native.Nat.{ℕ, suc, _+_, _≤_, min}
 use native.Mathlib.Omega.{arith}
 use Rattle.engine.specs.Meaning.{Meaning, most, counted}
-use Rattle.engine.proofs.Refusing.{alike}
 use Rattle.trial.specs.Trying.{countedBy}
 
 -- a count that is not beyond the most

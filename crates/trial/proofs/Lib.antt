@@ -7,3 +7,4 @@ pub mod Trying
 pub mod Seeing
 pub mod Gathering
 pub mod Allowed
+pub mod Conflicts

@@ -1,15 +1,14 @@
 -- The table of seen literals.
 use mathlib.Core.Path.{_≡_, refl, sym, _∙_, ap}
 use mathlib.Core.Bool.{Bool, true, false, _||_, cond}
-use mathlib.Core.List.{List, [], _∷_}
+use mathlib.Core.List.{List, _∷_}
 use Prim.Native.Nat.{ℕ, zero, suc, _+_, _<_, _≤_}
-use native.Mathlib.Omega.{arith}
 use lib.ListN.{length, getD, drop, replicate}
 use Rattle.std.proofs.shelf.Lists.{at-drop-more, at-drop-all}
 use Rattle.cnf.specs.declared.literals.Literal.{Literal}
 use Rattle.cnf.specs.Literals.{sameLiteral}
 use Rattle.cnf.specs.Clauses.{Clause}
-use Rattle.drup.specs.Backward.{holds, standsIn}
+use Rattle.drup.specs.Backward.{holds}
 use Rattle.trial.specs.declared.seen.Seen.{Seen}
 use Rattle.trial.specs.Seeing.{sees, SeesJust}
 

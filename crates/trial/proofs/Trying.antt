@@ -8,10 +8,9 @@ use Rattle.cnf.specs.Literals.{complement}
 use Rattle.drup.specs.declared.Forced.{Forced}
 use Rattle.engine.specs.declared.answers.Entry.{Entry}
 use Rattle.engine.specs.Meaning.{Meaning, values, valuesOf, withTrail, withOpened}
-use Rattle.engine.proofs.Refusing.{alike}
 use Rattle.trial.specs.declared.ends.TrialEnd.{TrialEnd}
 use Rattle.trial.specs.declared.ends.TrialEnd.the-variants.{Conflict, Nothing}
-use Rattle.trial.specs.Trying.{supposed, onTrail, countedBy, EndsRight}
+use Rattle.trial.specs.Trying.{supposed, countedBy, EndsRight}
 use Rattle.trial.proofs.Supposing.{values-supposed}
 
 -- once the complements of these literals are assumed

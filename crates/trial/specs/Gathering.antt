@@ -1,7 +1,7 @@
 -- The antecedents that are gathered, and what they are gathered from.
 use mathlib.Core.List.{List}
 use Prim.Native.Nat.{ℕ, _≤_}
-use lib.ListN.{length, drop}
+use lib.ListN.{drop}
 use Rattle.cnf.specs.Clauses.{Clause, _∈_, Within}
 use Rattle.drup.specs.declared.Forced.{Forced}
 use Rattle.engine.specs.Meaning.{highest}

@@ -1,5 +1,4 @@
 -- What a trial does to an engine, and what it finds.
-use mathlib.Core.Path.{_≡_}
 use mathlib.Core.List.{List, [], _∷_, _++_, map}
 use Prim.Native.Nat.{ℕ, _+_, _<_, min}
 use lib.ListN.{length}

@@ -1,5 +1,6 @@
 //! The antecedents of a lemma.
 ghost use Prim.Native.Nat.{_≤_};
+
 pub mod filling;
 
 /// The numbers of a lemma's antecedents in order of derivation. They are found from the last to the first, so they stand

@@ -27,7 +27,7 @@ fn enters(seen: &Seen, forced: Forced) -> bool
 /// from the latest answer back, the clause that forced a literal is put ahead if the literal's complement stands in a
 /// clause of the row.
 pub fn row_of<T: Texts>(texts: &T, answers: &Answers, conflict: u16) -> Antecedents
-    requires kept { ⌜ T·Texts .kept (now texts) ⌝ }
+    requires sound { ⌜ T·Texts .sound (now texts) ⌝ }
     requires within { ⌜ AllWithin (T·Texts .clauses (now texts)) ⌝ }
     requires known { ⌜ AllKnown (T·Texts .clauses (now texts)) (latest (now answers)) ⌝ }
     requires numbered { ⌜ Numbered (T·Texts .clauses (now texts)) conflict ⌝ }

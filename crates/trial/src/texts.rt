@@ -12,11 +12,11 @@ pub trait Texts {
     ghost clauses: { Self → List Clause };
 
     /// A table as its owner keeps it.
-    ghost kept: { Self → Type 0 };
+    ghost sound: { Self → Type 0 };
 
     /// The literals of the clause with this number.
     fn clause(&self, number: u16) -> &[Literal]
-        requires kept { ⌜ kept (now self) ⌝ }
+        requires sound { ⌜ sound (now self) ⌝ }
         requires numbered { ⌜ Numbered (clauses (now self)) number ⌝ }
         ensures { λ r. ⌜ now r ≡ textIn (clauses (now (self .entry))) number ⌝ };
 }

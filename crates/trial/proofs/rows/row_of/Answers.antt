@@ -1,6 +1,6 @@
 use mathlib.Core.Path.{_≡_, sym, _∙_}
 use mathlib.Core.List.{[], _∷_}
-use Prim.Native.Nat.{suc, _-_, _≤_, _<_}
+use Prim.Native.Nat.{suc, _-_}
 use native.Mathlib.Omega.{arith}
 use Rattle.drup.specs.Backward.{gathered}
 use Rattle.engine.specs.Meaning.{textIn}
@@ -26,7 +26,7 @@ enters-requires g c κs =
 pub clause-requires-then-enters : need.clause-requires-then-enters
 clause-requires-then-enters g c κs =
     let known = known-at (g .T·Texts .clauses (c .args .texts .now)) (c .args .answers .now) (c .pre .known) (c .loop-i .i - 1) (omega arith) (c .at-forced .result) (c .at-forced .ensures) in
-    record { kept = c .pre .kept; numbered = known .0 }
+    record { sound = c .pre .sound; numbered = known .0 }
 
 pub add-clause-requires-then-enters : need.add-clause-requires-then-enters
 add-clause-requires-then-enters g c κs =

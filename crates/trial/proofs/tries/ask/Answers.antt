@@ -8,8 +8,7 @@ use Rattle.trial.proofs.tries.ask.Needs as need
 
 pub loop-end-holds : need.loop-end-holds
 loop-end-holds g c =
-    let m = g .E·Engine .meaning (c .args .engine .now) in
-    (
+    let m = g .E·Engine .meaning (c .args .engine .now) in (
       subst (λ (xs : List Forced). Asked m xs m) (sym (c .clear .ensures)) (at-start m (g .E·Engine .laws (c .args .engine .now) (c .pre .sound))),
       c .pre .sound,
     )

@@ -18,11 +18,10 @@ assume-literal-requires g c κs = record {
 }
 
 pub loop-literal-again : need.loop-literal-again
-loop-literal-again g c =
-    (
-      next-done (g .E·Engine .meaning (c .args .engine .now)) (c .args .literals .now) (c .loop-literal .literal-index) _ (c .loop-literal-test .taken) (g .E·Engine .meaning (c .loop-literal .engine)) (c .complement .result) (c .loop-literal .inv .0) (c .complement .ensures) (g .E·Engine .meaning (c .assume-literal .last .engine)) (c .assume-literal .ensures .does),
-      c .assume-literal .ensures .stays,
-    )
+loop-literal-again g c = (
+  next-done (g .E·Engine .meaning (c .args .engine .now)) (c .args .literals .now) (c .loop-literal .literal-index) _ (c .loop-literal-test .taken) (g .E·Engine .meaning (c .loop-literal .engine)) (c .complement .result) (c .loop-literal .inv .0) (c .complement .ensures) (g .E·Engine .meaning (c .assume-literal .last .engine)) (c .assume-literal .ensures .does),
+  c .assume-literal .ensures .stays,
+)
 
 pub returns : need.returns
 returns g c = record {
