@@ -10,10 +10,10 @@ use Rattle.drup.specs.declared.Forced.{Forced}
 use Rattle.drup.specs.Backward.{ConflictOver, NothingOver}
 use Rattle.engine.specs.declared.answers.Entry.{Entry}
 use Rattle.engine.specs.declared.answers.Answer.{Answer}
-use Rattle.engine.specs.declared.answers.Answer.the-variants.{Conflict as Falsified, Forced as Forces, Nothing as Neither}
+use Rattle.engine.specs.declared.answers.Answer.the-variants.{Conflict, Forced as ForcedBy, Nothing}
 use Rattle.engine.specs.Meaning.{Meaning, On, textOf, entry, most}
 use Rattle.trial.specs.declared.ends.TrialEnd.{TrialEnd}
-use Rattle.trial.specs.declared.ends.TrialEnd.the-variants.{Conflict, Nothing}
+use Rattle.trial.specs.declared.ends.TrialEnd.the-variants.{Conflict as ConflictAt, Nothing as NothingMore}
 
 -- a trail once the complements of these literals are assumed
 abbrev pub supposed : List Literal → List Entry
@@ -30,21 +30,21 @@ forced l n = record { literal = l; number = n }
 
 -- the answers once this one is noted
 abbrev pub notedBy : Answer → List Forced → List Forced
-notedBy (Falsified n) answers = answers
-notedBy (Forces l n) answers = forced l n ∷ answers
-notedBy Neither answers = answers
+notedBy (Conflict n) answers = answers
+notedBy (ForcedBy l n) answers = forced l n ∷ answers
+notedBy Nothing answers = answers
 
 -- how a trial ends with this answer, if it does
 abbrev pub endOf : Answer → Option TrialEnd
-endOf (Falsified n) = Some (Conflict n)
-endOf (Forces l n) = None
-endOf Neither = Some Nothing
+endOf (Conflict n) = Some (ConflictAt n)
+endOf (ForcedBy l n) = None
+endOf Nothing = Some NothingMore
 
 -- there is a place for what is to be noted
 abbrev pub RoomFor : Answer → List Forced → Type 0
-RoomFor (Falsified n) answers = Unit {0}
-RoomFor (Forces l n) answers = length answers < 512
-RoomFor Neither answers = Unit {0}
+RoomFor (Conflict n) answers = Unit {0}
+RoomFor (ForcedBy l n) answers = length answers < 512
+RoomFor Nothing answers = Unit {0}
 
 -- so many answers more are counted, up to where the count stops
 abbrev pub countedBy : ℕ → Meaning → Meaning
@@ -53,5 +53,5 @@ countedBy k m = record { texts = m .texts; on = m .on; trail = m .trail; opened 
 -- what the end of a trial says, over the texts that are on: under the assumed literals these answers, the latest first,
 -- were right, and after them a text was false, or none was and none forced a literal
 abbrev pub EndsRight : Meaning → (assumed : List Literal) → List Forced → TrialEnd → Type 0
-EndsRight m assumed answers (Conflict n) = ConflictOver (On m) (textOf m) assumed answers n
-EndsRight m assumed answers Nothing = NothingOver (On m) (textOf m) assumed answers
+EndsRight m assumed answers (ConflictAt n) = ConflictOver (On m) (textOf m) assumed answers n
+EndsRight m assumed answers NothingMore = NothingOver (On m) (textOf m) assumed answers

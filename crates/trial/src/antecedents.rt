@@ -5,7 +5,7 @@ pub mod filling;
 
 /// The numbers of a lemma's antecedents in order of derivation. They are found from the last to the first, so they stand
 /// at the end of their table, and `start` says where.
-#[derive(Clone, Copy)]
+#[derive(Drop)]
 pub struct Antecedents {
     table: [u16; 513],
     start: usize,

@@ -12,7 +12,7 @@ use cnf::literals::Literal;
 
 /// Of each variable whether its positive literal was seen, and whether its negative one was. The variable 0 has a place
 /// too, so that a variable is its own index.
-#[derive(Clone, Copy)]
+#[derive(Drop)]
 pub(crate) struct Seen {
     positive: [bool; 513],
     negative: [bool; 513],
