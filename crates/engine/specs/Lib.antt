@@ -4,3 +4,5 @@ pub mod Lowest
 pub mod Limits
 pub mod Looks
 pub mod Trails
+pub mod Core
+pub mod CoreSides
