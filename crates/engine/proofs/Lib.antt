@@ -2,3 +2,8 @@ pub mod Consistent
 pub mod Keeping
 pub mod Looking
 pub mod Refusing
+pub mod CoreMarks
+pub mod CoreServes
+pub mod CoreTogether
+pub mod CoreCalls
+pub mod CoreWhole
