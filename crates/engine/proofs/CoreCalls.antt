@@ -15,10 +15,10 @@ use Rattle.engine.specs.declared.answers.Answer.{Answer}
 use Rattle.engine.specs.declared.answers.Answer.the-variants.{Conflict, Forced, Nothing}
 use Rattle.engine.specs.declared.faults.EngineFault.{EngineFault}
 use Rattle.engine.specs.declared.faults.EngineFault.the-variants.{AlreadyOn, NotOn}
-use Rattle.engine.specs.Meaning.{Meaning, On, isOn, values, withText, withMark, joinedBy, counted, noText, noPut, noOn, noOff, noAssume, Says, answered, Does, Puts, TurnsOn, TurnsOff, Prefers, Assumes}
+use Rattle.engine.specs.Meaning.{Meaning, On, isOn, values, withText, withMark, joinedBy, counted, noText, noPut, noOn, noOff, noAssume, Says, answered, Does, Puts, TurnsOn, TurnsOff, Prefers, Assumes, Next, WellFormed}
 use Rattle.engine.specs.Core.{Serves, Together, Bare, BackedBy, told, Asked, PreferredFirst}
 use Rattle.engine.proofs.Refusing.{on-already, on-done, off-not, off-done}
-use Rattle.engine.proofs.CoreServes.{done, still, numbered, put-free, assume-free, on-fault, on-free, off-fault, off-free, on-allowed, says-up}
+use Rattle.engine.proofs.CoreServes.{done, still, numbered, put-free, assume-free, on-fault, on-free, off-fault, off-free, on-allowed, says-up, told-free}
 use Rattle.engine.proofs.CoreTogether.{linked-of, of-linked, bare-number, bare-full, on-first, on-second, off-both, off-second, off-first, rest-on, rest-off, first-off, to-first, now-first, together-text, together-joined, together-first, together-second, together-counted, nothing-both}
 
 -- both sides are what they are said to be
@@ -146,9 +146,17 @@ module _ (m : Meaning) (n : ℕ) (o : m .opened ≡ false) (t : noText m n ≡ f
       )
   prefer-in-first false p r p′ r′ e x f h bare = absurd (bare-number m bare n t)
 
-  pub preferred-on : (b : Bool) (p r p′ : Meaning) (u : Unit {0}) → Prefers p n (Ok u) p′ → BackedBy b p r m → On p′ n
-  preferred-on true p r p′ u h s = subst (λ (z : Meaning). On z n) (sym (h .1)) (off-free p m (s .preferred) n o t (h .0))
-  preferred-on false p r p′ u h bare = absurd (bare-number m bare n t)
+  pub preferred-on : (b : Bool) (p r p′ : Meaning) (x : Result (Unit {0}) EngineFault) → Prefers p n x p′ → x ≡ Ok tt → BackedBy b p r m → On p′ n
+  preferred-on true p r p′ (Ok u) h e s = subst (λ (z : Meaning). On z n) (sym (h .1)) (off-free p m (s .preferred) n o t (h .0))
+  preferred-on true p r p′ (Err d) h e s = let z : _≡_ {A = ℕ} 0 1 = cc in absurd (omega arith)
+  preferred-on false p r p′ x h e bare = absurd (bare-number m bare n t)
+
+-- an engine is forced to a literal, and another with the same values assumes it
+pub asked-forced : (a b a′ b′ : Meaning) → WellFormed a → (answer : Answer) (l : Literal) (n : ℕ) (x : Result (Unit {0}) EngineFault) → answer ≡ Forced l n
+    → Next a (Ok answer) a′ → Assumes b l x b′ → Asked a b (Forced l n) a′ b′
+asked-forced a b a′ b′ well answer l n x e h k o q v =
+    let w = subst (λ (z : Answer). Next a (Ok z) a′) e h in
+    (w .1, w .2, done (noAssume b l) b (joinedBy l 0 b) x b′ k (told-free a b well q v n l (w .1 .0) (w .1 .1)))
 
 -- the sides answer for the whole
 module _ (p r m : Meaning) (t : Together p r m) (o : m .opened ≡ true) where

@@ -5,7 +5,7 @@ use Prim.Native.Nat.{ℕ}
 use Rattle.std.specs.declared.option.Option.{Option}
 use Rattle.std.specs.declared.option.Option.the-variants.{None}
 use Rattle.std.specs.declared.result.Result.{Result}
-use Rattle.std.specs.declared.result.Result.the-variants.{Ok, Err}
+use Rattle.std.specs.declared.result.Result.the-variants.{Ok}
 use Rattle.engine.specs.declared.answers.Answer.{Answer}
 use Rattle.engine.specs.declared.faults.EngineFault.{EngineFault}
 use Rattle.engine.specs.declared.core_first.Sides.{Sides}
@@ -42,8 +42,7 @@ module _ {P R : Type 0} (pm : P → Meaning) (rm : R → Meaning) where
 
   -- a text that is accepted is on in the preferred side
   abbrev pub Moved : (number : ℕ) → Sides P R → Result (Unit {0}) EngineFault → Sides P R → Type 0
-  Moved n s (Ok x) z = (m : Meaning) → m .opened ≡ false → noText m n ≡ false → Backs s m → On (pm (z .preferred)) n
-  Moved n s (Err e) z = Unit {0}
+  Moved n s r z = r ≡ Ok tt → (m : Meaning) → m .opened ≡ false → noText m n ≡ false → Backs s m → On (pm (z .preferred)) n
 
   -- the sides answer for the meaning, the preferred one first
   abbrev pub Answers : Sides P R → Answer → Sides P R → Type 0

@@ -1,0 +1,15 @@
+use Rattle.engine.specs.Meaning.{joinedBy}
+use Rattle.engine.proofs.CoreTogether.{linked-of, of-linked}
+use Rattle.engine.proofs.CoreCalls.{assume-both}
+use Rattle.engine.proofs.core_first.Sides.assume.Needs as need
+
+pub returns-then-self : need.returns-then-self
+returns-then-self g c =
+    let s = c .args .self .now in
+    let p = g .P·Engine .meaning (s .preferred) in
+    let r = g .R·Engine .meaning (s .rest) in
+    let l = c .args .literal in
+    record {
+      carries = λ m free b. of-linked (s .linked) _ _ (joinedBy l 0 m) (c .if-self .taken) (assume-both p r m _ _ l (c .assume .result) (c .assume-then-self .result) (c .assume .ensures .does) (c .assume-then-self .ensures .does) free (linked-of (s .linked) p r m (c .if-self .taken) b));
+      stays = (c .assume .ensures .stays, c .assume-then-self .ensures .stays);
+    }
