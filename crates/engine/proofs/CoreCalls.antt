@@ -1,6 +1,6 @@
 -- What each call of the two sides does to the meaning that they stand for.
 use mathlib.Core.Path.{_≡_, refl, sym, ap, subst, _∙_}
-use mathlib.Core.Logic.{_⊎_, inl, inr}
+use mathlib.Core.Logic.{_⊎_}
 use mathlib.Core.Bool.{Bool, true, false}
 use mathlib.Core.List.{List}
 use Prim.Native.Nat.{ℕ}
@@ -16,7 +16,7 @@ use Rattle.engine.specs.declared.answers.Answer.the-variants.{Conflict, Forced
 use Rattle.engine.specs.declared.faults.EngineFault.{EngineFault}
 use Rattle.engine.specs.declared.faults.EngineFault.the-variants.{AlreadyOn, NotOn}
 use Rattle.engine.specs.Meaning.{Meaning, On, isOn, values, withText, withMark, joinedBy, counted, noText, noPut, noOn, noOff, noAssume, Says, answered, Does, Puts, TurnsOn, TurnsOff, Prefers, Assumes, Next, WellFormed}
-use Rattle.engine.specs.Core.{Serves, Together, Bare, BackedBy, told, Asked, PreferredFirst}
+use Rattle.engine.specs.Core.{Serves, Together, Bare, BackedBy, told, Asked}
 use Rattle.engine.proofs.Refusing.{on-already, on-done, off-not, off-done}
 use Rattle.engine.proofs.CoreServes.{done, still, numbered, put-free, assume-free, on-fault, on-free, off-fault, off-free, on-allowed, says-up, told-free}
 use Rattle.engine.proofs.CoreTogether.{linked-of, of-linked, bare-number, bare-full, on-first, on-second, off-both, off-second, off-first, rest-on, rest-off, first-off, to-first, now-first, together-text, together-joined, together-first, together-second, together-counted, nothing-both}
@@ -159,33 +159,27 @@ asked-forced a b a′ b′ well answer l n x e h k o q v =
     (w .1, w .2, done (noAssume b l) b (joinedBy l 0 b) x b′ k (told-free a b well q v n l (w .1 .0) (w .1 .1)))
 
 -- the sides answer for the whole
-module _ (p r m : Meaning) (t : Together p r m) (o : m .opened ≡ true) where
-  abbrev Answered : Answer → (p′ r′ : Meaning) → Type 0
-  Answered a p′ r′ = Says m a × Together p′ r′ (answered m a) × PreferredFirst p a
-
-  asked-first : (a : Answer) (p′ r′ : Meaning) → Asked p r a p′ r′ → Says p a × (p′ ≡ answered p a) × (r′ ≡ told r a)
-  asked-first a p′ r′ h = h (t .preferred .opened ∙ o) (t .rest .opened ∙ o) (t .rest .valued ∙ sym (t .preferred .valued))
-
-  pub next-first : (a : Answer) (p′ r′ : Meaning) → (a ≡ Nothing → ⊥) → Asked p r a p′ r′ → Answered a p′ r′
-  next-first a p′ r′ d h =
-      let q = asked-first a p′ r′ h in (
-        says-up p m (t .preferred) (on-first p r m t) a d (q .0),
-        at-both (q .1) (q .2) (together-first p r m t a),
-        inl (q .0),
+module _ (p r m : Meaning) (t : Together p r m) (o : m .opened ≡ true) (a : Answer) (p′ r′ : Meaning) where
+  -- the preferred side
+  pub ask-first : Asked p r a p′ r′
+      → Says p a × ((a ≡ Nothing → ⊥) → Says m a × Together p′ r′ (answered m a)) × (a ≡ Nothing → Says p′ Nothing × Together p′ r′ m)
+  ask-first h =
+      let q = h (t .preferred .opened ∙ o) (t .rest .opened ∙ o) (t .rest .valued ∙ sym (t .preferred .valued)) in (
+        q .0,
+        (λ d. (says-up p m (t .preferred) (on-first p r m t) a d (q .0), at-both (q .1) (q .2) (together-first p r m t a))),
+        (λ e. (
+          subst (λ (x : Meaning). Says x Nothing) (sym (q .1 ∙ ap (answered p) e)) (subst (Says p) e (q .0)),
+          at-both (q .1 ∙ ap (answered p) e) (q .2 ∙ ap (told r) e) (together-counted p r m t),
+        )),
       )
 
-  -- what the rest says where the preferred side has nothing
-  says-second : Says p Nothing → (a : Answer) → Says r a → Says m a
+  -- the rest, where the preferred side has nothing
+  says-second : Says p Nothing → (b : Answer) → Says r b → Says m b
   says-second none (Conflict n) h = says-up r m (t .rest) (on-second p r m t) (Conflict n) (λ e. let z : _≡_ {A = ℕ} 0 1 = cc in omega arith) h
   says-second none (Forced l n) h = says-up r m (t .rest) (on-second p r m t) (Forced l n) (λ e. let z : _≡_ {A = ℕ} 0 1 = cc in omega arith) h
   says-second none Nothing h = nothing-both p r m t none h
 
-  pub next-second : (a : Answer) (p′ r′ p″ r″ : Meaning) → Asked p r Nothing p′ r′ → Asked r′ p′ a r″ p″ → Answered a p″ r″
-  next-second a p′ r′ p″ r″ h k =
-      let q = asked-first Nothing p′ r′ h in
-      let s : Together p′ r′ m = at-both (q .1) (q .2) (together-counted p r m t) in
-      let w = k (s .rest .opened ∙ o) (s .preferred .opened ∙ o) (s .preferred .valued ∙ sym (s .rest .valued)) in (
-        says-second (q .0) a (subst (λ (x : Meaning). Says x a) (q .2) (w .0)),
-        at-both (w .2) (w .1) (together-second p′ r′ m s a),
-        inr (q .0),
-      )
+  pub ask-second : Asked r p a r′ p′ → Says p Nothing → Says m a × Together p′ r′ (answered m a)
+  ask-second h none =
+      let q = h (t .rest .opened ∙ o) (t .preferred .opened ∙ o) (t .preferred .valued ∙ sym (t .rest .valued)) in
+      (says-second none a (q .0), at-both (q .2) (q .1) (together-second p r m t a))

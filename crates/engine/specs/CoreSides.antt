@@ -7,6 +7,7 @@ use Rattle.std.specs.declared.option.Option.the-variants.{None}
 use Rattle.std.specs.declared.result.Result.{Result}
 use Rattle.std.specs.declared.result.Result.the-variants.{Ok}
 use Rattle.engine.specs.declared.answers.Answer.{Answer}
+use Rattle.engine.specs.declared.answers.Answer.the-variants.{Nothing}
 use Rattle.engine.specs.declared.faults.EngineFault.{EngineFault}
 use Rattle.engine.specs.declared.core_first.Sides.{Sides}
 use Rattle.engine.specs.declared.core_first.CoreFirst.{CoreFirst}
@@ -17,6 +18,14 @@ use Rattle.engine.specs.Core.{noCore, BackedBy, heldTexts, heldMarks, Preferre
 -- both sides are as their makings and earlier calls leave them
 abbrev pub BothSound : {P R : Type 0} → (P → Type 0) → (R → Type 0) → Sides P R → Type 0
 BothSound ps rs s = ps (s .preferred) × rs (s .rest)
+
+-- sides that are not linked are left alone
+abbrev pub Alone : {P R : Type 0} → (s z : Sides P R) → Type 0
+Alone s z = s .linked ≡ false → z ≡ s
+
+-- these two are not linked, and are as they were
+abbrev pub LeftAlone : {P R : Type 0} → P → R → Sides P R → Type 0
+LeftAlone p r s = (s .linked ≡ false) × (s .preferred ≡ p) × (s .rest ≡ r)
 
 module _ {P R : Type 0} (pm : P → Meaning) (rm : R → Meaning) where
   -- the sides stand for m
@@ -43,6 +52,19 @@ module _ {P R : Type 0} (pm : P → Meaning) (rm : R → Meaning) where
   -- a text that is accepted is on in the preferred side
   abbrev pub Moved : (number : ℕ) → Sides P R → Result (Unit {0}) EngineFault → Sides P R → Type 0
   Moved n s r z = r ≡ Ok tt → (m : Meaning) → m .opened ≡ false → noText m n ≡ false → Backs s m → On (pm (z .preferred)) n
+
+  -- the preferred side answers for itself, for the meaning if it has an answer, and else the sides stand for it as before
+  abbrev pub AsksPreferred : Sides P R → Answer → Sides P R → Type 0
+  AsksPreferred s r z =
+      (m : Meaning) → m .opened ≡ true → Backs s m
+      → Says (pm (s .preferred)) r
+      × ((r ≡ Nothing → ⊥) → Says m r × Backs z (answered m r))
+      × (r ≡ Nothing → Says (pm (z .preferred)) Nothing × Backs z m)
+
+  -- the rest answers for the meaning, where the preferred side has nothing
+  abbrev pub AsksRest : Sides P R → Answer → Sides P R → Type 0
+  AsksRest s r z =
+      (m : Meaning) → m .opened ≡ true → Backs s m → Says (pm (s .preferred)) Nothing → Says m r × Backs z (answered m r)
 
   -- the sides answer for the meaning, the preferred one first
   abbrev pub Answers : Sides P R → Answer → Sides P R → Type 0

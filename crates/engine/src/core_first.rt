@@ -1,14 +1,14 @@
 //! An engine of two engines: the texts of the core are asked first.
 use crate::trails::Trail;
 
-pub mod asking;
-pub mod both;
+mod asking;
+mod both;
 pub mod making;
 pub mod serving;
 
 /// Two engines that hold the same texts, each on in at most one of them. Sides that are not linked are left alone.
 #[derive(Drop)]
-pub struct Sides<P, R> {
+struct Sides<P, R> {
     preferred: P,
     rest: R,
     linked: bool,

@@ -4,7 +4,7 @@ ghost use mathlib.Core.Bool.{true, false};
 ghost use Rattle.std.specs.declared.option.Option.the-variants.{None};
 ghost use Rattle.cnf.specs.Arranging.{arranged};
 ghost use Rattle.engine.specs.Meaning.{cleared, withText, withMark, withOpened, joinedBy, noPut, noOn, noOff, noAssume};
-ghost use Rattle.engine.specs.CoreSides.{BothSound, Linked, Carries, Turns, Moved, Answers};
+ghost use Rattle.engine.specs.CoreSides.{BothSound, Alone, Linked, Carries, Turns, Moved, AsksPreferred, AsksRest, Answers};
 use crate::answers::Answer;
 use crate::contract::Engine;
 use crate::core_first::Sides;
@@ -30,6 +30,7 @@ impl<P: Engine, R: Engine> Sides<P, R> {
     pub(crate) fn clear(&mut self)
         requires { ⌜ BothSound (P·Engine .sound) (R·Engine .sound) (now self) ⌝ }
         ensures carries { λ _. ⌜ Carries (P·Engine .meaning) (R·Engine .meaning) (λ m. m .opened ≡ false) cleared (now (self .entry)) (now (self .exit)) ⌝ }
+        ensures alone { λ _. ⌜ Alone (now (self .entry)) (now (self .exit)) ⌝ }
         ensures stays { λ _. ⌜ BothSound (P·Engine .sound) (R·Engine .sound) (now (self .exit)) ⌝ }
     {
         if self.linked {
@@ -40,7 +41,8 @@ impl<P: Engine, R: Engine> Sides<P, R> {
 
     /// Adds a text to both sides.
     pub(crate) fn put(&mut self, literals: &[Literal])
-        requires { ⌜ BothSound (P·Engine .sound) (R·Engine .sound) (now self) ⌝ }
+        requires sound { ⌜ BothSound (P·Engine .sound) (R·Engine .sound) (now self) ⌝ }
+        requires linked { ⌜ now self .linked ≡ true ⌝ }
         ensures carries { λ _. ⌜ Carries (P·Engine .meaning) (R·Engine .meaning) (λ m. noPut m (now (literals .entry)) ≡ None) (withText (arranged (now (literals .entry)))) (now (self .entry)) (now (self .exit)) ⌝ }
         ensures stays { λ _. ⌜ BothSound (P·Engine .sound) (R·Engine .sound) (now (self .exit)) ⌝ }
     {
@@ -50,7 +52,8 @@ impl<P: Engine, R: Engine> Sides<P, R> {
 
     /// Turns a text on in the rest.
     pub(crate) fn on(&mut self, number: u16) -> Result<(), EngineFault>
-        requires { ⌜ BothSound (P·Engine .sound) (R·Engine .sound) (now self) ⌝ }
+        requires sound { ⌜ BothSound (P·Engine .sound) (R·Engine .sound) (now self) ⌝ }
+        requires linked { ⌜ now self .linked ≡ true ⌝ }
         ensures turns { λ r. ⌜ Turns (P·Engine .meaning) (R·Engine .meaning) number (λ m. noOn m number) (withMark number true) (now (self .entry)) r (now (self .exit)) ⌝ }
         ensures kept { λ _. ⌜ P·Engine .meaning (now (self .exit) .preferred) ≡ P·Engine .meaning (now (self .entry) .preferred) ⌝ }
         ensures stays { λ _. ⌜ BothSound (P·Engine .sound) (R·Engine .sound) (now (self .exit)) ⌝ }
@@ -63,7 +66,8 @@ impl<P: Engine, R: Engine> Sides<P, R> {
 
     /// Turns a text off in the side where it is on.
     pub(crate) fn off(&mut self, number: u16) -> Result<(), EngineFault>
-        requires { ⌜ BothSound (P·Engine .sound) (R·Engine .sound) (now self) ⌝ }
+        requires sound { ⌜ BothSound (P·Engine .sound) (R·Engine .sound) (now self) ⌝ }
+        requires linked { ⌜ now self .linked ≡ true ⌝ }
         ensures turns { λ r. ⌜ Turns (P·Engine .meaning) (R·Engine .meaning) number (λ m. noOff m number) (withMark number false) (now (self .entry)) r (now (self .exit)) ⌝ }
         ensures stays { λ _. ⌜ BothSound (P·Engine .sound) (R·Engine .sound) (now (self .exit)) ⌝ }
     {
@@ -75,7 +79,8 @@ impl<P: Engine, R: Engine> Sides<P, R> {
 
     /// Moves a text that is on to the preferred side.
     pub(crate) fn prefer(&mut self, number: u16) -> Result<(), EngineFault>
-        requires { ⌜ BothSound (P·Engine .sound) (R·Engine .sound) (now self) ⌝ }
+        requires sound { ⌜ BothSound (P·Engine .sound) (R·Engine .sound) (now self) ⌝ }
+        requires linked { ⌜ now self .linked ≡ true ⌝ }
         ensures turns { λ r. ⌜ Turns (P·Engine .meaning) (R·Engine .meaning) number (λ m. noOff m number) (λ m. m) (now (self .entry)) r (now (self .exit)) ⌝ }
         ensures moved { λ r. ⌜ Moved (P·Engine .meaning) (R·Engine .meaning) number (now (self .entry)) r (now (self .exit)) ⌝ }
         ensures stays { λ _. ⌜ BothSound (P·Engine .sound) (R·Engine .sound) (now (self .exit)) ⌝ }
@@ -90,6 +95,7 @@ impl<P: Engine, R: Engine> Sides<P, R> {
     pub(crate) fn begin(&mut self, key: &Key)
         requires { ⌜ BothSound (P·Engine .sound) (R·Engine .sound) (now self) ⌝ }
         ensures carries { λ _. ⌜ Carries (P·Engine .meaning) (R·Engine .meaning) (λ m. m .opened ≡ false) (withOpened true) (now (self .entry)) (now (self .exit)) ⌝ }
+        ensures alone { λ _. ⌜ Alone (now (self .entry)) (now (self .exit)) ⌝ }
         ensures stays { λ _. ⌜ BothSound (P·Engine .sound) (R·Engine .sound) (now (self .exit)) ⌝ }
     {
         if self.linked {
@@ -102,6 +108,7 @@ impl<P: Engine, R: Engine> Sides<P, R> {
     pub(crate) fn assume(&mut self, trial: &Trial, literal: Literal)
         requires { ⌜ BothSound (P·Engine .sound) (R·Engine .sound) (now self) ⌝ }
         ensures carries { λ _. ⌜ Carries (P·Engine .meaning) (R·Engine .meaning) (λ m. noAssume m literal ≡ None) (joinedBy literal 0) (now (self .entry)) (now (self .exit)) ⌝ }
+        ensures alone { λ _. ⌜ Alone (now (self .entry)) (now (self .exit)) ⌝ }
         ensures stays { λ _. ⌜ BothSound (P·Engine .sound) (R·Engine .sound) (now (self .exit)) ⌝ }
     {
         if self.linked {
@@ -110,17 +117,38 @@ impl<P: Engine, R: Engine> Sides<P, R> {
         }
     }
 
+    /// What the preferred side answers.
+    fn ask_preferred(&mut self, trial: &Trial) -> Answer
+        requires sound { ⌜ BothSound (P·Engine .sound) (R·Engine .sound) (now self) ⌝ }
+        requires linked { ⌜ now self .linked ≡ true ⌝ }
+        ensures asks { λ r. ⌜ AsksPreferred (P·Engine .meaning) (R·Engine .meaning) (now (self .entry)) r (now (self .exit)) ⌝ }
+        ensures stays { λ _. ⌜ BothSound (P·Engine .sound) (R·Engine .sound) (now (self .exit)) ⌝ ∗ ⌜ now (self .exit) .linked ≡ true ⌝ }
+    {
+        ask(&mut self.preferred, &mut self.rest, trial)
+    }
+
+    /// What the rest answers.
+    fn ask_rest(&mut self, trial: &Trial) -> Answer
+        requires sound { ⌜ BothSound (P·Engine .sound) (R·Engine .sound) (now self) ⌝ }
+        requires linked { ⌜ now self .linked ≡ true ⌝ }
+        ensures asks { λ r. ⌜ AsksRest (P·Engine .meaning) (R·Engine .meaning) (now (self .entry)) r (now (self .exit)) ⌝ }
+        ensures stays { λ _. ⌜ BothSound (P·Engine .sound) (R·Engine .sound) (now (self .exit)) ⌝ }
+    {
+        ask(&mut self.rest, &mut self.preferred, trial)
+    }
+
     /// What the preferred side answers, or the rest where that has nothing.
     pub(crate) fn next(&mut self, trial: &Trial) -> Answer
         requires { ⌜ BothSound (P·Engine .sound) (R·Engine .sound) (now self) ⌝ }
         ensures answers { λ r. ⌜ Answers (P·Engine .meaning) (R·Engine .meaning) (now (self .entry)) r (now (self .exit)) ⌝ }
+        ensures alone { λ _. ⌜ Alone (now (self .entry)) (now (self .exit)) ⌝ }
         ensures stays { λ _. ⌜ BothSound (P·Engine .sound) (R·Engine .sound) (now (self .exit)) ⌝ }
     {
         if !self.linked {
             return Answer::Nothing;
         }
-        match ask(&mut self.preferred, &mut self.rest, trial) {
-            Answer::Nothing => ask(&mut self.rest, &mut self.preferred, trial),
+        match self.ask_preferred(trial) {
+            Answer::Nothing => self.ask_rest(trial),
             answer => answer,
         }
     }
@@ -129,6 +157,7 @@ impl<P: Engine, R: Engine> Sides<P, R> {
     pub(crate) fn finish(&mut self, key: &Key)
         requires { ⌜ BothSound (P·Engine .sound) (R·Engine .sound) (now self) ⌝ }
         ensures carries { λ _. ⌜ Carries (P·Engine .meaning) (R·Engine .meaning) (λ m. m .opened ≡ true) (withOpened false) (now (self .entry)) (now (self .exit)) ⌝ }
+        ensures alone { λ _. ⌜ Alone (now (self .entry)) (now (self .exit)) ⌝ }
         ensures stays { λ _. ⌜ BothSound (P·Engine .sound) (R·Engine .sound) (now (self .exit)) ⌝ }
     {
         if self.linked {

@@ -1,10 +1,12 @@
 //! The making of a core-first engine: a look whether the sides are free, and a making that cannot be refused.
 ghost use mathlib.Core.Path.{_≡_};
 ghost use Prim.Native.Nat.{_≤_, min};
+ghost use Rattle.std.specs.declared.option.Option.the-variants.{Some};
+ghost use Rattle.engine.specs.declared.faults.EngineFault.the-variants.{TrialOpen};
 ghost use Rattle.engine.specs.Meaning.{empty};
 ghost use Rattle.engine.specs.Limits.{judged, made};
 ghost use Rattle.engine.specs.Core.{noCore};
-ghost use Rattle.engine.specs.CoreSides.{BothSound, Backs, coreMeaning, CoreSound};
+ghost use Rattle.engine.specs.CoreSides.{BothSound, LeftAlone, Backs, coreMeaning, CoreSound};
 use crate::contract::Engine;
 use crate::core_first::CoreFirst;
 use crate::core_first::Sides;
@@ -29,6 +31,7 @@ impl<P: Engine, R: Engine> CoreFirst<P, R> {
         requires { ⌜ P·Engine .sound preferred × R·Engine .sound rest ⌝ }
         ensures sound { λ r. ⌜ CoreSound (P·Engine .meaning) (R·Engine .meaning) (P·Engine .sound) (R·Engine .sound) r ⌝ }
         ensures means { λ r. ⌜ coreMeaning (P·Engine .meaning) (R·Engine .meaning) r ≡ made (noCore (P·Engine .meaning preferred) (R·Engine .meaning rest)) (min (P·Engine .meaning preferred .textLimit) (R·Engine .meaning rest .textLimit)) (min (P·Engine .meaning preferred .literalLimit) (R·Engine .meaning rest .literalLimit)) ⌝ }
+        ensures alone { λ r. ⌜ (noCore (P·Engine .meaning preferred) (R·Engine .meaning rest) ≡ Some TrialOpen → LeftAlone preferred rest (r .sides)) ⌝ }
     {
         let fit = CoreFirst::fits(&preferred, &rest);
         let mut sides = Sides {
@@ -54,6 +57,7 @@ impl<P: Engine, R: Engine> CoreFirst<P, R> {
         requires small { ⌜ «text_limit» ≤ 4096 ⌝ ∗ ⌜ «literal_limit» ≤ 32768 ⌝ }
         ensures sound { λ r. ⌜ CoreSound (P·Engine .meaning) (R·Engine .meaning) (P·Engine .sound) (R·Engine .sound) r ⌝ }
         ensures means { λ r. ⌜ coreMeaning (P·Engine .meaning) (R·Engine .meaning) r ≡ empty «text_limit» «literal_limit» ⌝ }
+        ensures over { λ r. ⌜ r .sides ≡ sides ⌝ }
     {
         let trail = Trail::new();
         CoreFirst {

@@ -16,4 +16,5 @@ returns g c =
     record {
       sound = record { both = c .pre .sound; whole = whole-at after b (empty-well (c .args .text-limit) (c .args .literal-limit) (c .pre .small .0) (c .pre .small .1)) (c .new-trail .ensures .tidy) refl refl };
       means = after;
+      over = refl;
     }

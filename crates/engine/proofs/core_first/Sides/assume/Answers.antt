@@ -1,3 +1,4 @@
+use Rattle.std.proofs.shelf.Tests.{both-ways}
 use Rattle.engine.specs.Meaning.{joinedBy}
 use Rattle.engine.proofs.CoreTogether.{linked-of, of-linked}
 use Rattle.engine.proofs.CoreCalls.{assume-both}
@@ -11,5 +12,6 @@ returns-then-self g c =
     let l = c .args .literal in
     record {
       carries = λ m free b. of-linked (s .linked) _ _ (joinedBy l 0 m) (c .if-self .taken) (assume-both p r m _ _ l (c .assume .result) (c .assume-then-self .result) (c .assume .ensures .does) (c .assume-then-self .ensures .does) free (linked-of (s .linked) p r m (c .if-self .taken) b));
+      alone = λ e. absurd (both-ways (s .linked) e (c .if-self .taken));
       stays = (c .assume .ensures .stays, c .assume-then-self .ensures .stays);
     }

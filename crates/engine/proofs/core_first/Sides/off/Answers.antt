@@ -6,7 +6,7 @@ returns-in-Ok g c =
     let s = c .args .self .now in
     record {
       turns = λ m o t b. off-in-first m (c .args .number) o t (s .linked) (g .P·Engine .meaning (s .preferred)) (g .R·Engine .meaning (s .rest)) _ tt (c .in-Ok .ensures tt .does) b;
-      stays = (c .off .ensures .stays, c .pre .1);
+      stays = (c .off .ensures .stays, c .pre .sound .1);
     }
 
 pub returns-in-Err : need.returns-in-Err

@@ -7,7 +7,7 @@ returns-in-Ok g c =
     record {
       turns = λ m o t b. on-in-first m (c .args .number) o t (s .linked) (g .P·Engine .meaning (s .preferred)) (g .R·Engine .meaning (s .rest)) _ tt (c .in-Ok .ensures tt .does) b;
       kept = c .in-Ok .ensures tt .does .1;
-      stays = (c .prefer .ensures .stays, c .pre .1);
+      stays = (c .prefer .ensures .stays, c .pre .sound .1);
     }
 
 pub returns-in-Err : need.returns-in-Err
