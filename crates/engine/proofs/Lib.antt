@@ -2,8 +2,3 @@ pub mod Consistent
 pub mod Keeping
 pub mod Looking
 pub mod Refusing
-pub mod CoreMarks
-pub mod CoreServes
-pub mod CoreTogether
-pub mod CoreCalls
-pub mod CoreWhole

@@ -4,5 +4,3 @@ pub mod Lowest
 pub mod Limits
 pub mod Looks
 pub mod Trails
-pub mod Core
-pub mod CoreSides

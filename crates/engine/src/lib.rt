@@ -2,7 +2,6 @@
 //! conflicts among those that are on in trials.
 pub mod answers;
 pub mod contract;
-pub mod core_first;
 pub mod faults;
 pub mod limits;
 pub mod looks;
