@@ -106,8 +106,8 @@ module _ (p r m : Meaning) (t : Together p r m) where
     to-first o = remarked (set (p .on) (n - 1) true) (set (r .on) (n - 1) false) (m .on)
         (both-set n true false ∙ same-mark (m .on) n true low (on-second n o))
         (λ k a b.
-            let c = left-on (r .on) n k low b in
-            ⊎-elim (c .0) (λ q. t .apart k q (c .1)) (new-on (p .on) n k low a))
+        let c = left-on (r .on) n k low b in
+        ⊎-elim (c .0) (λ q. t .apart k q (c .1)) (new-on (p .on) n k low a))
         (length-set (p .on) (n - 1) true ∙ t .even ∙ sym (length-set (r .on) (n - 1) false))
 
     pub now-first : On r n → On (withMark n true p) n

@@ -132,7 +132,7 @@ impl<P: Engine, R: Engine> Sides<P, R> {
         requires sound { ⌜ BothSound (P·Engine .sound) (R·Engine .sound) (now self) ⌝ }
         requires linked { ⌜ now self .linked ≡ true ⌝ }
         ensures asks { λ r. ⌜ AsksRest (P·Engine .meaning) (R·Engine .meaning) (now (self .entry)) r (now (self .exit)) ⌝ }
-        ensures stays { λ _. ⌜ BothSound (P·Engine .sound) (R·Engine .sound) (now (self .exit)) ⌝ }
+        ensures stays { λ _. ⌜ BothSound (P·Engine .sound) (R·Engine .sound) (now (self .exit)) ⌝ ∗ ⌜ now (self .exit) .linked ≡ true ⌝ }
     {
         ask(&mut self.rest, &mut self.preferred, trial)
     }

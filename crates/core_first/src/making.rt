@@ -43,7 +43,10 @@ impl<P: Engine, R: Engine> CoreFirst<P, R> {
             Ok(()) => {
                 sides.link();
                 let text_limit = sides.preferred.text_limit().min(sides.rest.text_limit());
-                let literal_limit = sides.preferred.literal_limit().min(sides.rest.literal_limit());
+                let literal_limit = sides
+                    .preferred
+                    .literal_limit()
+                    .min(sides.rest.literal_limit());
                 CoreFirst::empty(sides, text_limit, literal_limit)
             }
             Err(_) => CoreFirst::empty(sides, 0, 0),

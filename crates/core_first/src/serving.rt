@@ -41,7 +41,8 @@ impl<P: Engine, R: Engine> CoreFirst<P, R> {
         requires few { ⌜ count ≤ 512 ⌝ }
         ensures { λ r. ⌜ not r ≡ noRoom (coreMeaning (P·Engine .meaning) (R·Engine .meaning) (now (self .entry))) count ⌝ }
     {
-        self.text_count < self.text_limit && self.literal_count + count <= self.literal_limit as usize
+        self.text_count < self.text_limit
+            && self.literal_count + count <= self.literal_limit as usize
     }
 }
 

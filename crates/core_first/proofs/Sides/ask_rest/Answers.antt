@@ -15,5 +15,5 @@ returns g c =
       asks = λ m o b none.
           let q = ask-second p r m (linked-of (s .linked) p r m (c .pre .linked) b) o a p′ r′ (c .ask .ensures .asked) none in
           (q .0, of-linked (s .linked) p′ r′ (answered m a) (c .pre .linked) (q .1));
-      stays = (c .ask .ensures .stays .1, c .ask .ensures .stays .0);
+      stays = ((c .ask .ensures .stays .1, c .ask .ensures .stays .0), c .pre .linked);
     }
