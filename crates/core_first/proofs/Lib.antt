@@ -1,0 +1,5 @@
+pub mod CoreCalls
+pub mod CoreMarks
+pub mod CoreServes
+pub mod CoreTogether
+pub mod CoreWhole
