@@ -12,7 +12,6 @@ use cnf::drafts::arranging::arrange;
 use cnf::faults::ClauseFault;
 use cnf::literals::Literal;
 use engine::answers::Answer;
-use engine::answers::Entry;
 use engine::contract::Engine;
 use engine::faults::EngineFault;
 use engine::faults::EngineFromClause;
@@ -127,11 +126,11 @@ pub impl<P: Engine, R: Engine> Engine for CoreFirst<P, R> as CoreFirstEngine {
         if literal.variable == 0 || literal.variable > MOST_VARIABLES {
             return Err(EngineFault::Clause(ClauseFault::OutOfRange { place: 0 }));
         }
-        if has_value(self.trail.entries(), literal.variable) {
+        if has_value(self.trail.entries(), literal) {
             return Err(EngineFault::HasValue);
         }
         self.sides.assume(trial, literal);
-        self.trail.push(Entry { literal, number: 0 });
+        self.trail.push(literal, 0);
         Ok(())
     }
 
@@ -142,7 +141,7 @@ pub impl<P: Engine, R: Engine> Engine for CoreFirst<P, R> as CoreFirstEngine {
         let answer = self.sides.next(trial);
         self.answers = self.answers.saturating_add(1);
         if let Answer::Forced { literal, number } = answer {
-            self.trail.push(Entry { literal, number });
+            self.trail.push(literal, number);
         }
         Ok(answer)
     }
