@@ -19,7 +19,7 @@ use Rattle.cnf.proofs.Arranging.{all-cons, names-false}
 use Rattle.cnf.proofs.Complements.{sameLiteral-true, sameLiteral-self, same-or-not}
 use Rattle.cnf.proofs.Derivations.{forced-new}
 use Rattle.engine.specs.declared.answers.Entry.{Entry}
-use Rattle.engine.specs.Looks.{holds, isFalse, falsified, firstOpen, othersFalse, ifOthersFalse, forced}
+use Rattle.engine.specs.Looks.{stands, isFalse, isSpared, allFalseBut, falsified, firstOpen, ifOthersFalse, forced}
 
 -- what an element past the end reads as
 abbrev pub nobody : Literal
@@ -38,17 +38,17 @@ pub comes-out : {X Y : Type 0} (F : List X → Y) (xs : List X) (i : ℕ) → le
 comes-out F xs i h inv = sym (at-drop-all F xs i h) ∙ inv
 
 -- the test of a list is right
-pub holds-true : (l : Literal) (ls : List Literal) → holds l ls ≡ true → l ∈ ls
-holds-true l [] e = absurd (false≢true e)
-holds-true l (k ∷ ls) e =
-    elim (or-cases (sameLiteral l k) (holds l ls) e) [ inl s ↦ here (sameLiteral-true l k s) | inr h ↦ there (holds-true l ls h) ]
+pub stands-true : (l : Literal) (ls : List Literal) → stands l ls ≡ true → l ∈ ls
+stands-true l [] e = absurd (false≢true e)
+stands-true l (k ∷ ls) e =
+    elim (or-cases (sameLiteral l k) (stands l ls) e) [ inl s ↦ here (sameLiteral-true l k s) | inr h ↦ there (stands-true l ls h) ]
 
-pub holds-there : (l : Literal) (ls : List Literal) → l ∈ ls → holds l ls ≡ true
-holds-there l [] m = absurd (List·Memᴰ·not-nil m)
-holds-there l (k ∷ ls) m =
+pub stands-there : (l : Literal) (ls : List Literal) → l ∈ ls → stands l ls ≡ true
+stands-there l [] m = absurd (List·Memᴰ·not-nil m)
+stands-there l (k ∷ ls) m =
     elim (in-cons m) [
-      | inl e ↦ or-left (sameLiteral l k) (holds l ls) (ap (sameLiteral l) (sym e) ∙ sameLiteral-self l)
-      | inr n ↦ or-right (sameLiteral l k) (holds l ls) (holds-there l ls n)
+      | inl e ↦ or-left (sameLiteral l k) (stands l ls) (ap (sameLiteral l) (sym e) ∙ sameLiteral-self l)
+      | inr n ↦ or-right (sameLiteral l k) (stands l ls) (stands-there l ls n)
     ]
 
 -- a named variable has a value
@@ -66,34 +66,34 @@ module _ (trail : List Literal) where
   falsified-true [] e = λ k m. absurd (List·Memᴰ·not-nil m)
   falsified-true (l ∷ c) e =
       let p = and-parts (isFalse trail l) (falsified trail c) e in
-      all-cons (λ k. complement k ∈ trail) (holds-true (complement l) trail (p .0)) (falsified-true c (p .1))
+      all-cons (λ k. complement k ∈ trail) (stands-true (complement l) trail (p .0)) (falsified-true c (p .1))
 
   pub falsified-there : (c : Clause) → Falsified trail c → falsified trail c ≡ true
   falsified-there [] f = refl
   falsified-there (l ∷ c) f =
-      and-from (isFalse trail l) (falsified trail c) (holds-there (complement l) trail (f l (here refl))) (falsified-there c (λ k m. f k (there m)))
+      and-from (isFalse trail l) (falsified trail c) (stands-there (complement l) trail (f l (here refl))) (falsified-there c (λ k m. f k (there m)))
 
   pub falsified-false : (c : Clause) → falsified trail c ≡ false → Falsified trail c → ⊥
   falsified-false c e f = both-ways (falsified trail c) e (falsified-there c f)
 
-  others-true : (l : Literal) (c : Clause) → othersFalse trail l c ≡ true → (k : Literal) → k ∈ c → (k ≡ l → ⊥) → complement k ∈ trail
+  others-true : (l : Literal) (c : Clause) → allFalseBut trail (Some l) c ≡ true → (k : Literal) → k ∈ c → (k ≡ l → ⊥) → complement k ∈ trail
   others-true l [] e = λ k m. absurd (List·Memᴰ·not-nil m)
   others-true l (j ∷ c) e =
-      let p = and-parts (sameLiteral j l || isFalse trail j) (othersFalse trail l c) e in
+      let p = and-parts (sameLiteral j l || isFalse trail j) (allFalseBut trail (Some l) c) e in
       all-cons (λ k. (k ≡ l → ⊥) → complement k ∈ trail)
       (λ d. elim (or-cases (sameLiteral j l) (isFalse trail j) (p .0)) [
         | inl s ↦ absurd (d (sameLiteral-true j l s))
-        | inr h ↦ holds-true (complement j) trail h
+        | inr h ↦ stands-true (complement j) trail h
       ])
       (others-true l c (p .1))
 
-  others-there : (l : Literal) (c : Clause) → ((k : Literal) → k ∈ c → (k ≡ l → ⊥) → complement k ∈ trail) → othersFalse trail l c ≡ true
+  others-there : (l : Literal) (c : Clause) → ((k : Literal) → k ∈ c → (k ≡ l → ⊥) → complement k ∈ trail) → allFalseBut trail (Some l) c ≡ true
   others-there l [] f = refl
   others-there l (j ∷ c) f =
-      and-from (sameLiteral j l || isFalse trail j) (othersFalse trail l c)
+      and-from (sameLiteral j l || isFalse trail j) (allFalseBut trail (Some l) c)
       (elim (same-or-not j l) [
         | inl e ↦ or-left (sameLiteral j l) (isFalse trail j) (ap (λ (x : Literal). sameLiteral x l) e ∙ sameLiteral-self l)
-        | inr d ↦ or-right (sameLiteral j l) (isFalse trail j) (holds-there (complement j) trail (f j (here refl) d))
+        | inr d ↦ or-right (sameLiteral j l) (isFalse trail j) (stands-there (complement j) trail (f j (here refl) d))
       ])
       (others-there l c (λ k m. f k (there m)))
 
@@ -128,7 +128,7 @@ module _ (trail : List Literal) where
   pub forced-is : (c : Clause) → IsForced c (forced trail c)
   forced-is c = go (firstOpen trail c) (first-open c)
     where
-      by : (l : Literal) → (l ∈ c) × (names (l .variable) trail ≡ false) → (b : Bool) → othersFalse trail l c ≡ b → IsForced c (cond b (Some l) None)
+      by : (l : Literal) → (l ∈ c) × (names (l .variable) trail ≡ false) → (b : Bool) → allFalseBut trail (Some l) c ≡ b → IsForced c (cond b (Some l) None)
       by l p true e = record {
         stands = p .0;
         not-true = λ m. names-false (l .variable) trail (p .1) l m refl;
@@ -137,8 +137,8 @@ module _ (trail : List Literal) where
       }
       by l p false e = λ k f.
           let same = only c l k (p .0) (p .1) f in
-          both-ways (othersFalse trail l c) e (others-there l c (λ j m d. f .others j m (λ q. d (q ∙ sym same))))
+          both-ways (allFalseBut trail (Some l) c) e (others-there l c (λ j m d. f .others j m (λ q. d (q ∙ sym same))))
 
       go : (o : Option Literal) → FirstOpen c o → IsForced c (ifOthersFalse trail c o)
-      go (Some l) p = by l p (othersFalse trail l c) refl
+      go (Some l) p = by l p (allFalseBut trail (Some l) c) refl
       go None p = λ l f. both-ways (names (l .variable) trail) (forced-new trail c l f) (p l (f .stands))

@@ -15,9 +15,9 @@ use Rattle.engine.specs.Meaning.{Meaning, empty, rule, firstBroken}
 abbrev pub noMaking : (textLimit literalLimit records places : ℕ) → Option EngineFault
 noMaking t l records places =
     firstBroken (
-      rule (ltb 4096 t || ltb 32768 l) LimitOutOfRange
-      ∷ rule (ltb records t || ltb places l) ListTooShort
-      ∷ [])
+    rule (ltb 4096 t || ltb 32768 l) LimitOutOfRange
+    ∷ rule (ltb records t || ltb places l) ListTooShort
+    ∷ [])
 
 -- what a call says that only looks whether it would be refused
 abbrev pub judged : Option EngineFault → Result (Unit {0}) EngineFault

@@ -15,33 +15,37 @@ abbrev pub textAt : List Literal → (start length : ℕ) → Clause
 textAt places start length = take length (drop start places)
 
 -- l stands in the list
-abbrev pub holds : Literal → List Literal → Bool
-holds l [] = false
-holds l (k ∷ ks) = sameLiteral l k || holds l ks
+abbrev pub stands : Literal → List Literal → Bool
+stands l [] = false
+stands l (k ∷ ks) = sameLiteral l k || stands l ks
 
 -- l is false: its complement is on the trail
 abbrev pub isFalse : (trail : List Literal) → Literal → Bool
-isFalse trail l = holds (complement l) trail
+isFalse trail l = stands (complement l) trail
+
+-- l is the spared literal, if there is one
+abbrev pub isSpared : (spared : Option Literal) → Literal → Bool
+isSpared None l = false
+isSpared (Some k) l = sameLiteral l k
+
+-- every literal but the spared one is false
+abbrev pub allFalseBut : (trail : List Literal) → (spared : Option Literal) → Clause → Bool
+allFalseBut trail spared [] = true
+allFalseBut trail spared (l ∷ c) = (isSpared spared l || isFalse trail l) && allFalseBut trail spared c
 
 -- every literal is false
 abbrev pub falsified : (trail : List Literal) → Clause → Bool
-falsified trail [] = true
-falsified trail (l ∷ c) = isFalse trail l && falsified trail c
+falsified trail c = allFalseBut trail None c
 
 -- the first literal whose variable has no value
 abbrev pub firstOpen : (trail : List Literal) → Clause → Option Literal
 firstOpen trail [] = None
 firstOpen trail (l ∷ c) = cond (names (l .variable) trail) (firstOpen trail c) (Some l)
 
--- every literal but l is false
-abbrev pub othersFalse : (trail : List Literal) → Literal → Clause → Bool
-othersFalse trail l [] = true
-othersFalse trail l (k ∷ c) = (sameLiteral k l || isFalse trail k) && othersFalse trail l c
-
 -- this literal, if every other literal is false
 abbrev pub ifOthersFalse : (trail : List Literal) → Clause → Option Literal → Option Literal
 ifOthersFalse trail c None = None
-ifOthersFalse trail c (Some l) = cond (othersFalse trail l c) (Some l) None
+ifOthersFalse trail c (Some l) = cond (allFalseBut trail (Some l) c) (Some l) None
 
 -- the literal that is forced
 abbrev pub forced : (trail : List Literal) → Clause → Option Literal

@@ -101,6 +101,10 @@ joinedBy l n m = withTrail (m .trail ++ entry l n ∷ []) m
 abbrev pub counted : Meaning → Meaning
 counted m = record { texts = m .texts; on = m .on; trail = m .trail; opened = m .opened; answers = min (m .answers + 1) most; textLimit = m .textLimit; literalLimit = m .literalLimit }
 
+-- so many answers more
+abbrev pub countedBy : (more : ℕ) → Meaning → Meaning
+countedBy k m = record { texts = m .texts; on = m .on; trail = m .trail; opened = m .opened; answers = min (m .answers + k) most; textLimit = m .textLimit; literalLimit = m .literalLimit }
+
 -- a rule: whether it is broken, and the fault if it is
 pub data Rule : Type 0 where
   rule : (broken : Bool) → EngineFault → Rule
@@ -128,11 +132,11 @@ noTrial m = firstBroken (rule (not (m .opened)) NoTrial ∷ [])
 abbrev pub noPut : Meaning → List Literal → Option EngineFault
 noPut m ls =
     firstBroken (
-      rule (m .opened) TrialOpen
-      ∷ rule (beyond highest ls) (Faulty (OutOfRange (inRangeUntil highest ls)))
-      ∷ rule (twice ls) (Faulty (Repeated (newUntil [] ls)))
-      ∷ rule (noRoom m (length ls)) Full
-      ∷ [])
+    rule (m .opened) TrialOpen
+    ∷ rule (beyond highest ls) (Faulty (OutOfRange (inRangeUntil highest ls)))
+    ∷ rule (twice ls) (Faulty (Repeated (newUntil [] ls)))
+    ∷ rule (noRoom m (length ls)) Full
+    ∷ [])
 
 abbrev pub noOn : Meaning → (number : ℕ) → Option EngineFault
 noOn m n = firstBroken (rule (m .opened) TrialOpen ∷ rule (noText m n) NoSuchText ∷ rule (isOn m n) AlreadyOn ∷ [])
@@ -143,10 +147,10 @@ noOff m n = firstBroken (rule (m .opened) TrialOpen ∷ rule (noText m n) NoSuch
 abbrev pub noAssume : Meaning → Literal → Option EngineFault
 noAssume m l =
     firstBroken (
-      rule (not (m .opened)) NoTrial
-      ∷ rule (outside highest l) (Faulty (OutOfRange 0))
-      ∷ rule (names (l .variable) (values m)) HasValue
-      ∷ [])
+    rule (not (m .opened)) NoTrial
+    ∷ rule (outside highest l) (Faulty (OutOfRange 0))
+    ∷ rule (names (l .variable) (values m)) HasValue
+    ∷ [])
 
 -- what an answer says
 abbrev pub Says : Meaning → Answer → Type 0

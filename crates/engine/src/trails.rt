@@ -3,6 +3,7 @@ ghost use mathlib.Core.Path.{_≡_};
 ghost use mathlib.Core.List.{[], _∷_, _++_};
 ghost use Prim.Native.Nat.{_<_, _≤_};
 ghost use lib.ListN.{length};
+ghost use Rattle.engine.specs.Meaning.{entry};
 ghost use Rattle.engine.specs.Trails.{entriesOf, Tidy};
 use crate::answers::Entry;
 use cnf::literals::Literal;
@@ -50,14 +51,24 @@ impl Trail {
         &self.entries[0..self.len]
     }
 
-    /// One more literal at the end.
-    pub fn push(&mut self, entry: Entry)
+    /// One more entry at the end.
+    fn append(&mut self, last: Entry)
         requires tidy { ⌜ Tidy (now self) ⌝ }
         requires room { ⌜ length (entriesOf (now self)) < 512 ⌝ }
-        ensures joined { λ _. ⌜ entriesOf (now (self .exit)) ≡ entriesOf (now (self .entry)) ++ entry ∷ [] ⌝ }
+        ensures joined { λ _. ⌜ entriesOf (now (self .exit)) ≡ entriesOf (now (self .entry)) ++ last ∷ [] ⌝ }
         ensures tidy { λ _. ⌜ Tidy (now (self .exit)) ⌝ }
     {
-        self.entries[self.len] = entry;
+        self.entries[self.len] = last;
         self.len += 1;
+    }
+
+    /// One more literal at the end, with the number of the text that forced it, or 0.
+    pub fn push(&mut self, literal: Literal, number: u16)
+        requires tidy { ⌜ Tidy (now self) ⌝ }
+        requires room { ⌜ length (entriesOf (now self)) < 512 ⌝ }
+        ensures joined { λ _. ⌜ entriesOf (now (self .exit)) ≡ entriesOf (now (self .entry)) ++ entry literal number ∷ [] ⌝ }
+        ensures tidy { λ _. ⌜ Tidy (now (self .exit)) ⌝ }
+    {
+        self.append(Entry { literal, number });
     }
 }

@@ -1,12 +1,12 @@
 //! How a scanning engine finds an answer.
 ghost use mathlib.Core.Path.{_≡_};
-ghost use mathlib.Core.Bool.{cond, _&&_};
+ghost use mathlib.Core.Bool.{true, cond, _&&_};
 ghost use Prim.Native.Nat.{_≤_};
 ghost use Rattle.std.specs.declared.option.Option.the-variants.{None};
-ghost use Rattle.engine.specs.Meaning.{Says, isOn, values, textOf};
+ghost use Rattle.engine.specs.Meaning.{Says, isOn, values, textOf, counted, answered};
 ghost use Rattle.engine.specs.Looks.{falsified, forced};
 ghost use Rattle.engine.specs.Lowest.{LowestFalse, LowestForcing, SaysLowest};
-ghost use Rattle.scanning.specs.Store.{scanMeaning, ScanSound};
+ghost use Rattle.scanning.specs.Store.{scanMeaning, ScanSound, Shaped};
 use crate::Scanning;
 use cnf::literals::Literal;
 use engine::answers::Answer;
@@ -23,7 +23,11 @@ impl<'a> Scanning<'a> {
         ensures { λ r. ⌜ r ≡ (isOn (scanMeaning (now (self .entry))) number && falsified (values (scanMeaning (now (self .entry)))) (textOf (scanMeaning (now (self .entry))) number)) ⌝ }
     {
         let row = self.rows[number as usize - 1];
-        row.on && is_falsified(self.trail.entries(), text_at(self.places, row.start, row.length))
+        row.on
+            && is_falsified(
+                self.trail.entries(),
+                text_at(self.places, row.start, row.length),
+            )
     }
 
     /// The literal that a text forces, if it is on.
@@ -34,7 +38,10 @@ impl<'a> Scanning<'a> {
     {
         let row = self.rows[number as usize - 1];
         if row.on {
-            forced_by(self.trail.entries(), text_at(self.places, row.start, row.length))
+            forced_by(
+                self.trail.entries(),
+                text_at(self.places, row.start, row.length),
+            )
         } else {
             None
         }
@@ -69,7 +76,7 @@ impl<'a> Scanning<'a> {
     }
 
     /// The lowest falsified number, else the lowest forcing one.
-    pub(crate) fn find(&self) -> Answer
+    fn find(&self) -> Answer
         requires { ⌜ ScanSound (now self) ⌝ }
         ensures says { λ r. ⌜ Says (scanMeaning (now (self .entry))) r ⌝ }
         ensures lowest { λ r. ⌜ SaysLowest (scanMeaning (now (self .entry))) r ⌝ }
@@ -81,5 +88,31 @@ impl<'a> Scanning<'a> {
             Some(Entry { literal, number }) => Answer::Forced { literal, number },
             None => Answer::Nothing,
         }
+    }
+
+    /// Counts an answer.
+    fn count(&mut self)
+        requires { ⌜ Shaped (now self) ⌝ }
+        ensures means { λ _. ⌜ scanMeaning (now (self .exit)) ≡ counted (scanMeaning (now (self .entry))) ⌝ }
+        ensures shaped { λ _. ⌜ Shaped (now (self .exit)) ⌝ }
+    {
+        self.answers = self.answers.saturating_add(1);
+    }
+
+    /// Answers in an open trial, and counts the answer. A literal that is forced joins the trail.
+    pub(crate) fn answer(&mut self) -> Answer
+        requires sound { ⌜ ScanSound (now self) ⌝ }
+        requires open { ⌜ now self .opened ≡ true ⌝ }
+        ensures says { λ r. ⌜ Says (scanMeaning (now (self .entry))) r ⌝ }
+        ensures lowest { λ r. ⌜ SaysLowest (scanMeaning (now (self .entry))) r ⌝ }
+        ensures means { λ r. ⌜ scanMeaning (now (self .exit)) ≡ answered (scanMeaning (now (self .entry))) r ⌝ }
+        ensures stays { λ _. ⌜ ScanSound (now (self .exit)) ⌝ }
+    {
+        let answer = self.find();
+        self.count();
+        if let Answer::Forced { literal, number } = answer {
+            self.trail.push(literal, number);
+        }
+        answer
     }
 }

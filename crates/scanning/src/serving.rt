@@ -3,14 +3,11 @@ ghost use Rattle.engine.specs.Lowest.{SaysLowest};
 ghost use Rattle.scanning.specs.Store.{scanMeaning, ScanSound, scan-laws};
 use crate::Scanning;
 use cnf::drafts::MOST_VARIABLES;
-use cnf::drafts::arranging::arrange;
 use cnf::faults::ClauseFault;
 use cnf::literals::Literal;
 use engine::answers::Answer;
-use engine::answers::Entry;
 use engine::contract::Engine;
 use engine::faults::EngineFault;
-use engine::faults::EngineFromClause;
 use engine::looks::has_value;
 use engine::trials::Key;
 use engine::trials::Trial;
@@ -45,9 +42,7 @@ pub impl<'a> Engine for Scanning<'a> as ScanningEngine {
         if self.opened {
             return Err(EngineFault::TrialOpen);
         }
-        self.text_count = 0;
-        self.literal_count = 0;
-        self.answers = 0;
+        self.wipe();
         Ok(())
     }
 
@@ -55,13 +50,7 @@ pub impl<'a> Engine for Scanning<'a> as ScanningEngine {
         if self.opened {
             return Err(EngineFault::TrialOpen);
         }
-        let draft = arrange(MOST_VARIABLES, literals);
-        let text = draft.clause()?;
-        if !self.has_room(text.len()) {
-            return Err(EngineFault::Full);
-        }
-        self.store(text);
-        Ok(())
+        self.add(literals)
     }
 
     fn on(&mut self, number: u16) -> Result<(), EngineFault> {
@@ -119,10 +108,10 @@ pub impl<'a> Engine for Scanning<'a> as ScanningEngine {
         if literal.variable == 0 || literal.variable > MOST_VARIABLES {
             return Err(EngineFault::Clause(ClauseFault::OutOfRange { place: 0 }));
         }
-        if has_value(self.trail.entries(), literal.variable) {
+        if has_value(self.trail.entries(), literal) {
             return Err(EngineFault::HasValue);
         }
-        self.trail.push(Entry { literal, number: 0 });
+        self.trail.push(literal, 0);
         Ok(())
     }
 
@@ -130,12 +119,7 @@ pub impl<'a> Engine for Scanning<'a> as ScanningEngine {
         if !self.opened {
             return Err(EngineFault::NoTrial);
         }
-        let answer = self.find();
-        self.answers = self.answers.saturating_add(1);
-        if let Answer::Forced { literal, number } = answer {
-            self.trail.push(Entry { literal, number });
-        }
-        Ok(answer)
+        Ok(self.answer())
     }
 
     fn finish(&mut self, _key: &Key) -> Result<(), EngineFault> {

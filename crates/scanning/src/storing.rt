@@ -1,14 +1,18 @@
 //! How a scanning engine keeps its texts.
 ghost use mathlib.Core.Path.{_≡_};
-ghost use mathlib.Core.Bool.{true, not, cond};
+ghost use mathlib.Core.Bool.{false, not, cond};
 ghost use Prim.Native.Nat.{_+_, _<_, _≤_};
 ghost use lib.ListN.{length};
 ghost use Rattle.std.specs.declared.option.Option.the-variants.{Some, None};
-ghost use Rattle.engine.specs.Meaning.{isOn, noText, noRoom, withText, withMark};
+ghost use Rattle.engine.specs.Meaning.{isOn, noText, noRoom, withText, withMark, cleared, Puts};
 ghost use Rattle.scanning.specs.Store.{scanMeaning, ScanSound, Shaped, Copied};
 use crate::Scanning;
 use crate::rows::TextRow;
+use cnf::drafts::MOST_VARIABLES;
+use cnf::drafts::arranging::arrange;
 use cnf::literals::Literal;
+use engine::faults::EngineFault;
+use engine::faults::EngineFromClause;
 
 impl<'a> Scanning<'a> {
     /// Whether the text with this number is on, if there is one.
@@ -25,7 +29,7 @@ impl<'a> Scanning<'a> {
 
     /// Turns a text on or off.
     pub(crate) fn set_mark(&mut self, number: u16, on: bool)
-        requires shaped { ⌜ ScanSound (now self) ⌝ }
+        requires sound { ⌜ ScanSound (now self) ⌝ }
         requires number { ⌜ 1 ≤ number ⌝ ∗ ⌜ number ≤ now self .«text_count» ⌝ }
         ensures means { λ _. ⌜ scanMeaning (now (self .exit)) ≡ withMark number on (scanMeaning (now (self .entry))) ⌝ }
         ensures shaped { λ _. ⌜ Shaped (now (self .exit)) ⌝ }
@@ -34,7 +38,7 @@ impl<'a> Scanning<'a> {
     }
 
     /// Whether there is room for a text of so many literals.
-    pub(crate) fn has_room(&self, count: usize) -> bool
+    fn has_room(&self, count: usize) -> bool
         requires sound { ⌜ ScanSound (now self) ⌝ }
         requires few { ⌜ count ≤ 512 ⌝ }
         ensures { λ r. ⌜ not r ≡ noRoom (scanMeaning (now (self .entry))) count ⌝ }
@@ -55,7 +59,7 @@ impl<'a> Scanning<'a> {
     }
 
     /// Adds a text for which there is room.
-    pub(crate) fn store(&mut self, text: &[Literal])
+    fn store(&mut self, text: &[Literal])
         requires sound { ⌜ ScanSound (now self) ⌝ }
         requires room { ⌜ now self .«text_count» < now self .«text_limit» ⌝ ∗ ⌜ now self .«literal_count» + length (now text) ≤ now self .«literal_limit» ⌝ }
         ensures means { λ _. ⌜ scanMeaning (now (self .exit)) ≡ withText (now (text .entry)) (scanMeaning (now (self .entry))) ⌝ }
@@ -72,5 +76,33 @@ impl<'a> Scanning<'a> {
         self.rows[self.text_count as usize] = row;
         self.text_count += 1;
         self.literal_count = start + length;
+    }
+
+    /// Adds a text, unless its literals make no clause or there is no room for it.
+    pub(crate) fn add(&mut self, literals: &[Literal]) -> Result<(), EngineFault>
+        requires sound { ⌜ ScanSound (now self) ⌝ }
+        requires shut { ⌜ now self .opened ≡ false ⌝ }
+        ensures does { λ r. ⌜ Puts (scanMeaning (now (self .entry))) (now (literals .entry)) r (scanMeaning (now (self .exit))) ⌝ }
+        ensures stays { λ _. ⌜ ScanSound (now (self .exit)) ⌝ }
+    {
+        let draft = arrange(MOST_VARIABLES, literals);
+        let text = draft.clause()?;
+        if !self.has_room(text.len()) {
+            return Err(EngineFault::Full);
+        }
+        self.store(text);
+        Ok(())
+    }
+
+    /// Empties an engine that has no trial open, and its count of answers.
+    pub(crate) fn wipe(&mut self)
+        requires sound { ⌜ ScanSound (now self) ⌝ }
+        requires shut { ⌜ now self .opened ≡ false ⌝ }
+        ensures means { λ _. ⌜ scanMeaning (now (self .exit)) ≡ cleared (scanMeaning (now (self .entry))) ⌝ }
+        ensures stays { λ _. ⌜ ScanSound (now (self .exit)) ⌝ }
+    {
+        self.text_count = 0;
+        self.literal_count = 0;
+        self.answers = 0;
     }
 }

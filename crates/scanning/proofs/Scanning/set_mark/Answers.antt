@@ -11,7 +11,7 @@ use Rattle.scanning.proofs.Scanning.set_mark.Needs as need
 pub returns : need.returns
 returns c =
     let s = c .args .self .now in
-    let shape = c .pre .shaped .shape in
+    let shape = c .pre .sound .shape in
     let i = c .args .number - 1 in
     let b = c .args .on in
     let texts = texts-marked (s .places .now) (s .«text_count») i (s .rows .now) blankRow b in
