@@ -2,7 +2,8 @@
 ghost use mathlib.Core.Path.{_≡_};
 ghost use mathlib.Core.Bool.{not};
 ghost use Prim.Native.Nat.{_≤_};
-ghost use Rattle.engine.specs.Meaning.{noRoom};
+ghost use Rattle.std.specs.declared.option.Option.the-variants.{None};
+ghost use Rattle.engine.specs.Meaning.{noRoom, TurnsOn, TurnsOff, Prefers};
 ghost use Rattle.engine.specs.Limits.{judged};
 ghost use Rattle.core_first.specs.Core.{noTurn};
 ghost use Rattle.core_first.specs.CoreSides.{coreMeaning, CoreSound, core-laws};
@@ -12,7 +13,6 @@ use cnf::drafts::arranging::arrange;
 use cnf::faults::ClauseFault;
 use cnf::literals::Literal;
 use engine::answers::Answer;
-use engine::answers::Entry;
 use engine::contract::Engine;
 use engine::faults::EngineFault;
 use engine::faults::EngineFromClause;
@@ -33,6 +33,36 @@ impl<P: Engine, R: Engine> CoreFirst<P, R> {
             return Err(EngineFault::NoSuchText);
         }
         Ok(())
+    }
+
+    /// Turns a text on that can be turned, unless it is on.
+    fn turn_on(&mut self, number: u16) -> Result<(), EngineFault>
+        requires sound { ⌜ CoreSound (P·Engine .meaning) (R·Engine .meaning) (P·Engine .sound) (R·Engine .sound) (now self) ⌝ }
+        requires can { ⌜ noTurn (coreMeaning (P·Engine .meaning) (R·Engine .meaning) (now self)) number ≡ None ⌝ }
+        ensures does { λ r. ⌜ TurnsOn (coreMeaning (P·Engine .meaning) (R·Engine .meaning) (now (self .entry))) number r (coreMeaning (P·Engine .meaning) (R·Engine .meaning) (now (self .exit))) ⌝ }
+        ensures stays { λ _. ⌜ CoreSound (P·Engine .meaning) (R·Engine .meaning) (P·Engine .sound) (R·Engine .sound) (now (self .exit)) ⌝ }
+    {
+        self.sides.on(number)
+    }
+
+    /// Turns a text off that can be turned, unless it is off.
+    fn turn_off(&mut self, number: u16) -> Result<(), EngineFault>
+        requires sound { ⌜ CoreSound (P·Engine .meaning) (R·Engine .meaning) (P·Engine .sound) (R·Engine .sound) (now self) ⌝ }
+        requires can { ⌜ noTurn (coreMeaning (P·Engine .meaning) (R·Engine .meaning) (now self)) number ≡ None ⌝ }
+        ensures does { λ r. ⌜ TurnsOff (coreMeaning (P·Engine .meaning) (R·Engine .meaning) (now (self .entry))) number r (coreMeaning (P·Engine .meaning) (R·Engine .meaning) (now (self .exit))) ⌝ }
+        ensures stays { λ _. ⌜ CoreSound (P·Engine .meaning) (R·Engine .meaning) (P·Engine .sound) (R·Engine .sound) (now (self .exit)) ⌝ }
+    {
+        self.sides.off(number)
+    }
+
+    /// Moves a text that can be turned to the preferred side, unless it is off.
+    fn move_over(&mut self, number: u16) -> Result<(), EngineFault>
+        requires sound { ⌜ CoreSound (P·Engine .meaning) (R·Engine .meaning) (P·Engine .sound) (R·Engine .sound) (now self) ⌝ }
+        requires can { ⌜ noTurn (coreMeaning (P·Engine .meaning) (R·Engine .meaning) (now self)) number ≡ None ⌝ }
+        ensures does { λ r. ⌜ Prefers (coreMeaning (P·Engine .meaning) (R·Engine .meaning) (now (self .entry))) number r (coreMeaning (P·Engine .meaning) (R·Engine .meaning) (now (self .exit))) ⌝ }
+        ensures stays { λ _. ⌜ CoreSound (P·Engine .meaning) (R·Engine .meaning) (P·Engine .sound) (R·Engine .sound) (now (self .exit)) ⌝ }
+    {
+        self.sides.prefer(number)
     }
 
     /// Whether there is room for a text of so many literals.
@@ -97,17 +127,17 @@ pub impl<P: Engine, R: Engine> Engine for CoreFirst<P, R> as CoreFirstEngine {
 
     fn on(&mut self, number: u16) -> Result<(), EngineFault> {
         self.can_turn(number)?;
-        self.sides.on(number)
+        self.turn_on(number)
     }
 
     fn off(&mut self, number: u16) -> Result<(), EngineFault> {
         self.can_turn(number)?;
-        self.sides.off(number)
+        self.turn_off(number)
     }
 
     fn prefer(&mut self, number: u16) -> Result<(), EngineFault> {
         self.can_turn(number)?;
-        self.sides.prefer(number)
+        self.move_over(number)
     }
 
     fn begin(&mut self, key: &Key) -> Result<(), EngineFault> {
@@ -127,11 +157,11 @@ pub impl<P: Engine, R: Engine> Engine for CoreFirst<P, R> as CoreFirstEngine {
         if literal.variable == 0 || literal.variable > MOST_VARIABLES {
             return Err(EngineFault::Clause(ClauseFault::OutOfRange { place: 0 }));
         }
-        if has_value(self.trail.entries(), literal.variable) {
+        if has_value(self.trail.entries(), literal) {
             return Err(EngineFault::HasValue);
         }
         self.sides.assume(trial, literal);
-        self.trail.push(Entry { literal, number: 0 });
+        self.trail.push(literal, 0);
         Ok(())
     }
 
@@ -142,7 +172,7 @@ pub impl<P: Engine, R: Engine> Engine for CoreFirst<P, R> as CoreFirstEngine {
         let answer = self.sides.next(trial);
         self.answers = self.answers.saturating_add(1);
         if let Answer::Forced { literal, number } = answer {
-            self.trail.push(Entry { literal, number });
+            self.trail.push(literal, number);
         }
         Ok(answer)
     }
