@@ -3,17 +3,14 @@ use mathlib.Core.Path.{_≡_, refl, sym, ap, subst, _∙_}
 use mathlib.Core.Bool.{Bool, true, false}
 use mathlib.Core.List.{List}
 use Prim.Native.Nat.{ℕ}
-use native.Mathlib.Omega.{arith}
 use lib.ListN.{length}
 use Rattle.std.specs.declared.option.Option.{Option}
-use Rattle.std.specs.declared.option.Option.the-variants.{Some, None}
+use Rattle.std.specs.declared.option.Option.the-variants.{None}
 use Rattle.std.specs.declared.result.Result.{Result}
-use Rattle.std.specs.declared.result.Result.the-variants.{Ok}
 use Rattle.cnf.specs.Clauses.{Clause, literals}
 use Rattle.engine.specs.declared.faults.EngineFault.{EngineFault}
 use Rattle.engine.specs.declared.trails.Trail.{Trail}
 use Rattle.engine.specs.Meaning.{Meaning, WellFormed, withOn, noText, Does}
-use Rattle.engine.specs.Limits.{judged}
 use Rattle.engine.specs.Trails.{Tidy}
 use Rattle.core_first.specs.Core.{BackedBy, heldTexts, heldMarks, noTurn, Whole}
 use Rattle.engine.proofs.Keeping.{does-keeps, unbroken}
@@ -60,14 +57,9 @@ turned b p r m k t texts lits refusal marks x y a d does h w =
     keeps : (P : Meaning → Type 0) → P m → P (withOn marks m) → P k
     keeps P u v = does-keeps P refusal m (withOn marks m) x k u (λ e. v) does
 
--- a look that found no reason to refuse
-judged-free : (refusal : Option EngineFault) → Ok tt ≡ judged refusal → refusal ≡ None
-judged-free None e = refl
-judged-free (Some fault) e = let z : _≡_ {A = ℕ} 0 1 = cc in absurd (omega arith)
-
 -- a text that can be turned
-pub can-turn : (m : Meaning) (n : ℕ) → Ok tt ≡ judged (noTurn m n) → (m .opened ≡ false) × (noText m n ≡ false)
+pub can-turn : (m : Meaning) (n : ℕ) → noTurn m n ≡ None → (m .opened ≡ false) × (noText m n ≡ false)
 can-turn m n e =
-    let a = unbroken (m .opened) _ _ (judged-free (noTurn m n) e) in
+    let a = unbroken (m .opened) _ _ e in
     let b = unbroken (noText m n) _ _ (a .1) in
     (a .0, b .0)

@@ -2,7 +2,8 @@
 ghost use mathlib.Core.Path.{_≡_};
 ghost use mathlib.Core.Bool.{not};
 ghost use Prim.Native.Nat.{_≤_};
-ghost use Rattle.engine.specs.Meaning.{noRoom};
+ghost use Rattle.std.specs.declared.option.Option.the-variants.{None};
+ghost use Rattle.engine.specs.Meaning.{noRoom, TurnsOn, TurnsOff, Prefers};
 ghost use Rattle.engine.specs.Limits.{judged};
 ghost use Rattle.core_first.specs.Core.{noTurn};
 ghost use Rattle.core_first.specs.CoreSides.{coreMeaning, CoreSound, core-laws};
@@ -32,6 +33,36 @@ impl<P: Engine, R: Engine> CoreFirst<P, R> {
             return Err(EngineFault::NoSuchText);
         }
         Ok(())
+    }
+
+    /// Turns a text on that can be turned, unless it is on.
+    fn turn_on(&mut self, number: u16) -> Result<(), EngineFault>
+        requires sound { ⌜ CoreSound (P·Engine .meaning) (R·Engine .meaning) (P·Engine .sound) (R·Engine .sound) (now self) ⌝ }
+        requires can { ⌜ noTurn (coreMeaning (P·Engine .meaning) (R·Engine .meaning) (now self)) number ≡ None ⌝ }
+        ensures does { λ r. ⌜ TurnsOn (coreMeaning (P·Engine .meaning) (R·Engine .meaning) (now (self .entry))) number r (coreMeaning (P·Engine .meaning) (R·Engine .meaning) (now (self .exit))) ⌝ }
+        ensures stays { λ _. ⌜ CoreSound (P·Engine .meaning) (R·Engine .meaning) (P·Engine .sound) (R·Engine .sound) (now (self .exit)) ⌝ }
+    {
+        self.sides.on(number)
+    }
+
+    /// Turns a text off that can be turned, unless it is off.
+    fn turn_off(&mut self, number: u16) -> Result<(), EngineFault>
+        requires sound { ⌜ CoreSound (P·Engine .meaning) (R·Engine .meaning) (P·Engine .sound) (R·Engine .sound) (now self) ⌝ }
+        requires can { ⌜ noTurn (coreMeaning (P·Engine .meaning) (R·Engine .meaning) (now self)) number ≡ None ⌝ }
+        ensures does { λ r. ⌜ TurnsOff (coreMeaning (P·Engine .meaning) (R·Engine .meaning) (now (self .entry))) number r (coreMeaning (P·Engine .meaning) (R·Engine .meaning) (now (self .exit))) ⌝ }
+        ensures stays { λ _. ⌜ CoreSound (P·Engine .meaning) (R·Engine .meaning) (P·Engine .sound) (R·Engine .sound) (now (self .exit)) ⌝ }
+    {
+        self.sides.off(number)
+    }
+
+    /// Moves a text that can be turned to the preferred side, unless it is off.
+    fn move_over(&mut self, number: u16) -> Result<(), EngineFault>
+        requires sound { ⌜ CoreSound (P·Engine .meaning) (R·Engine .meaning) (P·Engine .sound) (R·Engine .sound) (now self) ⌝ }
+        requires can { ⌜ noTurn (coreMeaning (P·Engine .meaning) (R·Engine .meaning) (now self)) number ≡ None ⌝ }
+        ensures does { λ r. ⌜ Prefers (coreMeaning (P·Engine .meaning) (R·Engine .meaning) (now (self .entry))) number r (coreMeaning (P·Engine .meaning) (R·Engine .meaning) (now (self .exit))) ⌝ }
+        ensures stays { λ _. ⌜ CoreSound (P·Engine .meaning) (R·Engine .meaning) (P·Engine .sound) (R·Engine .sound) (now (self .exit)) ⌝ }
+    {
+        self.sides.prefer(number)
     }
 
     /// Whether there is room for a text of so many literals.
@@ -96,17 +127,17 @@ pub impl<P: Engine, R: Engine> Engine for CoreFirst<P, R> as CoreFirstEngine {
 
     fn on(&mut self, number: u16) -> Result<(), EngineFault> {
         self.can_turn(number)?;
-        self.sides.on(number)
+        self.turn_on(number)
     }
 
     fn off(&mut self, number: u16) -> Result<(), EngineFault> {
         self.can_turn(number)?;
-        self.sides.off(number)
+        self.turn_off(number)
     }
 
     fn prefer(&mut self, number: u16) -> Result<(), EngineFault> {
         self.can_turn(number)?;
-        self.sides.prefer(number)
+        self.move_over(number)
     }
 
     fn begin(&mut self, key: &Key) -> Result<(), EngineFault> {

@@ -2,7 +2,7 @@ use Rattle.engine.specs.Meaning.{noOff}
 use Rattle.core_first.specs.CoreSides.{coreMeaning}
 use Rattle.engine.proofs.Keeping.{prefers-well}
 use Rattle.core_first.proofs.CoreWhole.{can-turn, turned}
-use Rattle.core_first.proofs.serving.CoreFirstEngine.prefer.Needs as need
+use Rattle.core_first.proofs.CoreFirst.move_over.Needs as need
 
 pub returns : need.returns
 returns g c =
@@ -10,8 +10,8 @@ returns g c =
     let m = coreMeaning (g .P·Engine .meaning) (g .R·Engine .meaning) s in
     let n = c .args .number in
     let z = c .prefer .last .self in
-    let whole = c .pre .whole in
-    let can = can-turn m n (c .in-Continue-can-turn .ensures tt) in
+    let whole = c .pre .sound .whole in
+    let can = can-turn m n (c .pre .can) in
     let q = c .prefer .ensures .turns m (can .0) (can .1) (whole .backed) in
     let w = turned (z .linked) (g .P·Engine .meaning (z .preferred)) (g .R·Engine .meaning (z .rest)) m (q .0) (s .trail) (s .«text_count») (s .«literal_count») (noOff m n) (m .on) (c .prefer .result) (whole .tidy) (whole .text-count) (whole .literal-count) (q .1) (q .2) (prefers-well m (whole .well) n (c .prefer .result) (q .0) (q .1)) in
     record { does = w .0; stays = record { both = c .prefer .ensures .stays; whole = w .1 } }
