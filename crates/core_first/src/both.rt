@@ -1,4 +1,4 @@
-//! What the two sides do together.
+//! What the two sides do together. Where a side's result is let go, the whole has tested what the side would refuse.
 ghost use mathlib.Core.Path.{_≡_};
 ghost use mathlib.Core.Bool.{true, false};
 ghost use Rattle.std.specs.declared.option.Option.the-variants.{None};
