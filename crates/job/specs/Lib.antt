@@ -3,3 +3,5 @@ pub mod Records
 pub mod View
 pub mod History
 pub mod Sound
+pub mod Seen
+pub mod Opening

@@ -8,6 +8,8 @@ use crate::rows::ClauseRow;
 use crate::rows::StepRow;
 use cnf::literals::Literal;
 
+pub mod opening;
+
 /// A job over four lists that the caller lends: input clauses, and then steps.
 #[derive(Drop)]
 pub struct Job<'a> {
