@@ -5,3 +5,4 @@ pub mod History
 pub mod Sound
 pub mod Seen
 pub mod Opening
+pub mod Calls

@@ -56,3 +56,20 @@ texts s = textsIn (s .rows) (s .lits) (s .clauses)
 -- a mark for each clause, in the same order
 abbrev pub marks : View → List Bool
 marks s = map (λ row. row .kept) (take (s .clauses) (s .rows))
+
+-- the same but for one list, or for the judgement
+abbrev pub withRows : List ClauseRow → View → View
+withRows rows s = record { variables = s .variables; places = s .places; room = s .room; rows = rows; steps = s .steps; lits = s .lits; arcs = s .arcs; inputs = s .inputs; clauses = s .clauses; taken = s .taken; used = s .used; judged = s .judged }
+
+abbrev pub withLits : List Literal → View → View
+withLits lits s = record { variables = s .variables; places = s .places; room = s .room; rows = s .rows; steps = s .steps; lits = lits; arcs = s .arcs; inputs = s .inputs; clauses = s .clauses; taken = s .taken; used = s .used; judged = s .judged }
+
+abbrev pub withArcs : List ℕ → View → View
+withArcs arcs s = record { variables = s .variables; places = s .places; room = s .room; rows = s .rows; steps = s .steps; lits = s .lits; arcs = arcs; inputs = s .inputs; clauses = s .clauses; taken = s .taken; used = s .used; judged = s .judged }
+
+abbrev pub withJudged : Bool → View → View
+withJudged judged s = record { variables = s .variables; places = s .places; room = s .room; rows = s .rows; steps = s .steps; lits = s .lits; arcs = s .arcs; inputs = s .inputs; clauses = s .clauses; taken = s .taken; used = s .used; judged = judged }
+
+-- a row but for its mark
+abbrev pub bare : ClauseRow → ClauseRow
+bare row = record { start = row .start; len = row .len; entered = row .entered; struck = row .struck; kept = false }
