@@ -2,3 +2,4 @@ pub mod Histories
 pub mod Texts
 pub mod Keeping
 pub mod Entries
+pub mod Strikes
