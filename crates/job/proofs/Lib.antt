@@ -3,3 +3,4 @@ pub mod Texts
 pub mod Keeping
 pub mod Entries
 pub mod Strikes
+pub mod Withdrawals

@@ -30,13 +30,13 @@ use Rattle.job.proofs.Keeping.{same-inputs, same-before, same-numbered, same-u
 use Rattle.job.proofs.Entries.{all-steps}
 
 -- a row but for its strike
-record SameButStruck (row was : ClauseRow) : Type 0 where
-  start : row .start ≡ was .start
-  len : row .len ≡ was .len
-  entered : row .entered ≡ was .entered
-  kept : row .kept ≡ was .kept
+pub record SameButStruck (row was : ClauseRow) : Type 0 where
+  pub start : row .start ≡ was .start
+  pub len : row .len ≡ was .len
+  pub entered : row .entered ≡ was .entered
+  pub kept : row .kept ≡ was .kept
 
-struck-row : (rows : List ClauseRow) (p t k : ℕ)
+pub struck-row : (rows : List ClauseRow) (p t k : ℕ)
     → SameButStruck (getD (set rows p (struckAt (getD rows p blankRow) t)) k blankRow) (getD rows k blankRow)
 struck-row [] p t k = record { start = refl; len = refl; entered = refl; kept = refl }
 struck-row (r ∷ rows) zero t zero = record { start = refl; len = refl; entered = refl; kept = refl }
@@ -59,14 +59,14 @@ module _ (s : View) (o : Sound s) (p t : ℕ) where
       same-clause : (row was : ClauseRow) → SameButStruck row was → clauseAt (s .lits) row ≡ clauseAt (s .lits) was
       same-clause row was r = let a = r .start in let b = r .len in cc
 
-  laid-struck : Laid (set (s .rows) p (struckAt (getD (s .rows) p blankRow) t)) (s .clauses) (s .used)
+  pub laid-struck : Laid (set (s .rows) p (struckAt (getD (s .rows) p blankRow) t)) (s .clauses) (s .used)
   laid-struck =
       laid-same (set (s .rows) p (struckAt (getD (s .rows) p blankRow) t)) (s .rows) (s .clauses) (s .used)
       (λ k h. (struck-row (s .rows) p t k .start, struck-row (s .rows) p t k .len))
       ∙ o .laid
 
 -- the dates of a strike
-dated-strike : (ins ins′ : List Clause) (e e′ : List Step) (n : ℕ) → ins′ ≡ ins → e′ ≡ struck n ∷ e → (k : ℕ)
+pub dated-strike : (ins ins′ : List Clause) (e e′ : List Step) (n : ℕ) → ins′ ≡ ins → e′ ≡ struck n ∷ e → (k : ℕ)
     → (entryOf ins e k ≡ entryOf ins′ e′ k)
     × ((k ≡ n → ⊥) → strikeOf e k ≡ strikeOf e′ k)
     × (k ≡ n → suc (length e) ≡ strikeOf e′ k)
