@@ -4,3 +4,5 @@ pub mod Keeping
 pub mod Entries
 pub mod Strikes
 pub mod Withdrawals
+pub mod Standing
+pub mod Happening
