@@ -152,7 +152,7 @@ module _ (s : View) (o : Sound s) (c : Clause) (first : s .taken ≡ 0) (place :
       record {
         range = o .range;
         rooms = (omega arith, o .rooms .1, omega arith);
-        counts = (omega arith, omega arith);
+        counts = (omega arith, omega arith, omega arith, omega arith);
         laid = laid-now s o c 0 place fits;
         rising = rising-now s o c 0 place fits up;
         complete =
@@ -183,13 +183,15 @@ module _ (s : View) (o : Sound s) (c : Clause) (place : s .clauses < s .places) 
   strikes-so-far = strikes-live (textIn (texts s)) (s .inputs) (s .steps) (s .taken) (o .numbered) (s .taken) (omega arith)
 
   -- there is a place for the step
-  pub step-place : s .taken < length (s .steps)
-  step-place =
+  pub step-bound : s .taken < 2 * s .places
+  step-bound =
       let a = steps-most (inputsOf s) (stepsOf s) strikes-so-far in
       let b = all-steps s in
       let d = o .complete in
-      let e = o .rooms .1 in
       omega arith
+
+  pub step-place : s .taken < length (s .steps)
+  step-place = let a = step-bound in let e = o .rooms .1 in omega arith
 
   agree-lemma : (n : ℕ) → 1 ≤ n → n ≤ length (table (inputsOf s) (before s (s .taken))) → textIn (texts s) n ≡ textIn (texts (withLemma true s c)) n
   agree-lemma n low high = agree-now s o c (s .taken + 1) place fits n low (let e = o .complete in omega arith)
@@ -225,6 +227,7 @@ module _ (s : View) (o : Sound s) (c : Clause) (place : s .clauses < s .places) 
       let b = o .rooms .2 in
       let d = o .complete in
       let g = o .rooms .1 in
+      let bound = step-bound in
       let all = all-steps s in
       let row = getD-set-same (s .rows) (s .clauses) (newRow s c (s .taken + 1)) blankRow (omega arith) in
       let step = getD-set-same (s .steps) (s .taken) (Lemma (s .clauses + 1)) blankStep step-place in
@@ -234,7 +237,7 @@ module _ (s : View) (o : Sound s) (c : Clause) (place : s .clauses < s .places) 
       record {
         range = o .range;
         rooms = (omega arith, omega arith, omega arith);
-        counts = (omega arith, omega arith);
+        counts = (omega arith, omega arith, omega arith, omega arith);
         laid = laid-now s o c (s .taken + 1) place fits;
         rising = rising-now s o c (s .taken + 1) place fits up;
         complete =

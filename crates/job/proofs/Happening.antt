@@ -107,7 +107,7 @@ module _ (s : View) (o : Sound s) (ls : List Literal) where
       let p = or-parts (leb (s .places) (s .clauses)) (ltb (s .room - s .used) (length (arranged ls))) (sym (full-same s o ls) ∙ e) in
       let a = leb-false (s .places) (s .clauses) (p .0) in
       let b = ltb-false (s .room - s .used) (length (arranged ls)) (p .1) in
-      let c = o .counts .1 in
+      let c = o .counts .3 in
       (a, omega arith)
 
   pub clause-happens : (r : Result ℕ JobFault) (s′ : View) → r ≡ clauseAnswer s ls → s′ ≡ withInput (isOk r) s (arranged ls)

@@ -40,7 +40,7 @@ sound j = record {
 pub fields : (s : View) → Sound s
     → Range (s .variables) (s .places) (s .room)
     × (Rooms (s .places) (s .room) (s .rows) (s .steps) (s .lits)
-    × (Counts (s .places) (s .room) (s .clauses) (s .used)
+    × (Counts (s .places) (s .room) (s .inputs) (s .clauses) (s .taken) (s .used)
     × (Laid (s .rows) (s .clauses) (s .used)
     × (Rising (s .variables) (texts s) (s .clauses)
     × (Complete (texts s) (s .inputs) (s .steps) (s .taken) (s .clauses)
@@ -71,7 +71,7 @@ sound-lits s lits e same o = record {
 pub texts-beyond : (s : View) (p : ℕ) (l : Literal) → s .used ≤ p → p < length (s .lits) → Sound s
     → texts (withLits (set (s .lits) p l) s) ≡ texts s
 texts-beyond s p l above below o =
-    let room : s .clauses ≤ length (s .rows) = (let a = o .rooms .0 in let b = o .counts .0 in omega arith) in
+    let room : s .clauses ≤ length (s .rows) = (let a = o .rooms .0 in let b = o .counts .1 in omega arith) in
     texts-same (s .rows) (s .rows) (set (s .lits) p l) (s .lits) (s .clauses) room room
     (λ k h.
         let w = laid-within (s .rows) (s .clauses) (s .used) (o .laid) k h in
@@ -85,7 +85,7 @@ module _ (s : View) (rows : List ClauseRow) (e : length rows ≡ length (s .rows
     (same : (k : ℕ) → k < s .clauses → bare (getD rows k blankRow) ≡ bare (getD (s .rows) k blankRow)) (o : Sound s) where
   pub texts-marked : texts (withRows rows s) ≡ texts s
   texts-marked =
-      let room : s .clauses ≤ length (s .rows) = (let a = o .rooms .0 in let b = o .counts .0 in omega arith) in
+      let room : s .clauses ≤ length (s .rows) = (let a = o .rooms .0 in let b = o .counts .1 in omega arith) in
       texts-same rows (s .rows) (s .lits) (s .lits) (s .clauses) (omega arith) room
       (λ k h. ap (λ (row : ClauseRow). clauseAt (s .lits) row) (same k h))
 

@@ -6,3 +6,4 @@ pub mod Strikes
 pub mod Withdrawals
 pub mod Standing
 pub mod Happening
+pub mod Copies

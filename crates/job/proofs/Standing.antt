@@ -94,8 +94,8 @@ module _ (s : View) (o : Sound s) where
   all-literals =
       let a = o .rooms .0 in
       let b = o .rooms .2 in
-      let c = o .counts .0 in
-      let d = o .counts .1 in
+      let c = o .counts .1 in
+      let d = o .counts .3 in
       ap literals all-down-from
       ∙ laid-literals (s .rows) (s .lits) (s .clauses) (omega arith) (s .clauses) (s .used) (omega arith) (omega arith) (o .laid)
 
@@ -109,8 +109,8 @@ module _ (s : View) (o : Sound s) where
     all-clauses = λ c m.
         all-down (IsClause (s .variables)) (textIn (texts s)) (s .clauses) is-clause c
         (subst (λ (cs : List Clause). c ∈ cs) all-down-from m);
-    places = (let a = o .complete in let b = o .counts .0 in omega arith);
-    room = (let a = all-literals in let b = o .counts .1 in omega arith);
+    places = (let a = o .complete in let b = o .counts .1 in omega arith);
+    room = (let a = all-literals in let b = o .counts .3 in omega arith);
     only-last = only-last (textIn (texts s)) (s .steps) (s .taken) (o .unended);
   }
 
@@ -144,7 +144,7 @@ pub full-same : (s : View) (o : Sound s) (ls : List Literal) → full (machineOf
 full-same s o ls =
     let a = sym (o .complete) in
     let b = all-literals s o in
-    let c = left-places (s .room) (s .used) (length (arranged ls)) (o .counts .1) in
+    let c = left-places (s .room) (s .used) (length (arranged ls)) (o .counts .3) in
     let d = sym (arranged-length ls) in
     ap (λ (n : ℕ). leb (s .places) n || ltb (s .room) (length ls + literals (table (inputsOf s) (stepsOf s)))) a
     ∙ ap (λ (n : ℕ). leb (s .places) (s .clauses) || ltb (s .room) (length ls + n)) b

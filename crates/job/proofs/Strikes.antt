@@ -49,7 +49,7 @@ module _ (s : View) (o : Sound s) (p t : ℕ) where
   pub texts-struck : textsIn (set (s .rows) p (struckAt (getD (s .rows) p blankRow) t)) (s .lits) (s .clauses) ≡ texts s
   texts-struck =
       let a = o .rooms .0 in
-      let b = o .counts .0 in
+      let b = o .counts .1 in
       let e = length-set (s .rows) p (struckAt (getD (s .rows) p blankRow) t) in
       texts-same (set (s .rows) p (struckAt (getD (s .rows) p blankRow) t)) (s .rows) (s .lits) (s .lits) (s .clauses) (omega arith) (omega arith)
       (λ k h.
@@ -79,14 +79,16 @@ module _ (s : View) (o : Sound s) (n : ℕ) (live : Live (inputsOf s) (stepsOf s
   strikes-so-far = strikes-live (textIn (texts s)) (s .inputs) (s .steps) (s .taken) (o .numbered) (s .taken) (omega arith)
 
   -- there is a place for the step
-  pub strike-place : s .taken < length (s .steps)
-  strike-place =
+  pub strike-bound : s .taken < 2 * s .places
+  strike-bound =
       let a = steps-most (inputsOf s) (struck n ∷ stepsOf s) (live, strikes-so-far) in
       let b = all-steps s in
       let c = o .complete in
-      let d = o .counts .0 in
-      let e = o .rooms .1 in
+      let d = o .counts .1 in
       omega arith
+
+  pub strike-place : s .taken < length (s .steps)
+  strike-place = let a = strike-bound in let e = o .rooms .1 in omega arith
 
   pub its-place : n - 1 < s .clauses
   its-place = let a = live .numbered in let b = live .entered in let c = o .complete in omega arith
@@ -114,7 +116,7 @@ module _ (s : View) (o : Sound s) (n : ℕ) (live : Live (inputsOf s) (stepsOf s
   pub sound-strike : ended (stepsOf s) ≡ false → Sound (withStrike true s n)
   sound-strike on =
       let a = o .rooms .0 in
-      let b = o .counts .0 in
+      let b = o .counts .1 in
       let d = o .complete in
       let g = o .rooms .1 in
       let all = all-steps s in
@@ -126,7 +128,7 @@ module _ (s : View) (o : Sound s) (n : ℕ) (live : Live (inputsOf s) (stepsOf s
       record {
         range = o .range;
         rooms = (omega arith, omega arith, o .rooms .2);
-        counts = o .counts;
+        counts = (o .counts .0, o .counts .1, (let bound = strike-bound in omega arith), o .counts .3);
         laid = laid-struck s o (n - 1) (s .taken + 1);
         rising = subst (λ (ts : List Clause). Rising (s .variables) ts (s .clauses)) (sym (texts-struck s o (n - 1) (s .taken + 1))) (o .rising);
         complete =
@@ -177,7 +179,7 @@ module _ (s : View) (o : Sound s) (n : ℕ) (live : Live (inputsOf s) (stepsOf s
           → getD (set (s .rows) (n - 1) (struckAt (getD (s .rows) (n - 1) blankRow) (s .taken + 1))) k blankRow .struck ≡ s .taken + 1
       struck-here k at =
           let a = o .rooms .0 in
-          let b = o .counts .0 in
+          let b = o .counts .1 in
           let place = its-place in
           ap (λ (j : ℕ). getD (set (s .rows) (n - 1) (struckAt (getD (s .rows) (n - 1) blankRow) (s .taken + 1))) j blankRow .struck) at
           ∙ ap (λ (x : ClauseRow). x .struck) (getD-set-same (s .rows) (n - 1) (struckAt (getD (s .rows) (n - 1) blankRow) (s .taken + 1)) blankRow (omega arith))

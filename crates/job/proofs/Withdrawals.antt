@@ -22,7 +22,7 @@ use Rattle.job.specs.View.{View, blankRow, blankStep, textsIn, textIn, texts}
 use Rattle.job.specs.History.{downFrom, stepOf, stepsFrom, inputsOf, before, stepsOf}
 use Rattle.job.specs.Sound.{laidTo, Laid, Rising, Complete, isNext, Numbered, Unended, Dated, Ordered, Sound}
 use Rattle.job.specs.Calls.{struckAt, lastStep, without}
-use Rattle.job.proofs.Histories.{strike-none, next-lemma, next-strike}
+use Rattle.job.proofs.Histories.{inputs-within, strike-none, next-lemma, next-strike}
 use Rattle.job.proofs.Texts.{getD-texts, laid-last, text-before}
 use Rattle.job.proofs.Keeping.{same-inputs, same-before, same-numbered, same-unended}
 use Rattle.job.proofs.Strikes.{struck-row, texts-struck, laid-struck, dated-strike}
@@ -65,7 +65,7 @@ module _ (s : View) (o : Sound s) (some : 0 < s .taken) where
     number-positive = let f = number in omega arith
 
     room-before : suc (n - 1) ≤ length (s .rows)
-    room-before = let a = o .rooms .0 in let b = o .counts .0 in let e = last-clause in omega arith
+    room-before = let a = o .rooms .0 in let b = o .counts .1 in let e = last-clause in omega arith
 
     agree-before : (k : ℕ) → 1 ≤ k → k ≤ length (table (inputsOf s) (before s (s .taken - 1)))
         → textIn (texts s) k ≡ textIn (texts (without true s (Lemma n))) k
@@ -85,11 +85,17 @@ module _ (s : View) (o : Sound s) (some : 0 < s .taken) where
     pub steps-without-lemma : stepsOf (without true s (Lemma n)) ≡ before s (s .taken - 1)
     steps-without-lemma = before-without-lemma (s .taken - 1) (omega arith)
 
+    inputs-before : s .inputs ≤ n - 1
+    inputs-before =
+        let f = number in
+        let h = inputs-within (textIn (texts s)) (s .inputs) (s .steps) (s .taken - 1) (λ k b. o .numbered k (omega arith)) in
+        omega arith
+
     pub sound-without-lemma : Sound (without true s (Lemma n))
     sound-without-lemma =
         let a = o .rooms .0 in
-        let b = o .counts .0 in
-        let u = o .counts .1 in
+        let b = o .counts .1 in
+        let u = o .counts .3 in
         let e = last-clause in
         let f = number in
         let l = laid-last (s .rows) (n - 1) (s .used) (subst (λ (c : ℕ). laidTo (s .rows) c (s .used) ≡ true) e (o .laid)) in
@@ -97,7 +103,7 @@ module _ (s : View) (o : Sound s) (some : 0 < s .taken) where
         record {
           range = o .range;
           rooms = o .rooms;
-          counts = (omega arith, omega arith);
+          counts = (inputs-before, omega arith, (let most = o .counts .2 in omega arith), omega arith);
           laid = l .1;
           rising = λ k h.
               ap (ascending 0 (s .variables))
@@ -156,7 +162,7 @@ module _ (s : View) (o : Sound s) (some : 0 < s .taken) where
     alive-here : (k : ℕ) → k ≡ n - 1 → getD (set (s .rows) (n - 1) (struckAt (getD (s .rows) (n - 1) blankRow) 0)) k blankRow .struck ≡ 0
     alive-here k at =
         let a = o .rooms .0 in
-        let b = o .counts .0 in
+        let b = o .counts .1 in
         let place = struck-place in
         ap (λ (j : ℕ). getD (set (s .rows) (n - 1) (struckAt (getD (s .rows) (n - 1) blankRow) 0)) j blankRow .struck) at
         ∙ ap (λ (x : ClauseRow). x .struck) (getD-set-same (s .rows) (n - 1) (struckAt (getD (s .rows) (n - 1) blankRow) 0) blankRow (omega arith))
@@ -187,7 +193,7 @@ module _ (s : View) (o : Sound s) (some : 0 < s .taken) where
         record {
           range = o .range;
           rooms = (omega arith, o .rooms .1, o .rooms .2);
-          counts = o .counts;
+          counts = (o .counts .0, o .counts .1, (let most = o .counts .2 in omega arith), o .counts .3);
           laid = laid-struck s o (n - 1) 0;
           rising = subst (λ (ts : List Clause). Rising (s .variables) ts (s .clauses)) (sym (texts-struck s o (n - 1) 0)) (o .rising);
           complete =

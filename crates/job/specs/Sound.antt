@@ -24,9 +24,9 @@ Range variables places room = (variables ≤ 512) × (places ≤ 4096) × (room 
 abbrev pub Rooms : (places room : ℕ) → List ClauseRow → List StepRow → List Literal → Type 0
 Rooms places room rows steps lits = (places ≤ length rows) × (2 * places ≤ length steps) × (room ≤ length lits)
 
--- no more clauses and literals than places
-abbrev pub Counts : (places room clauses used : ℕ) → Type 0
-Counts places room clauses used = (clauses ≤ places) × (used ≤ room)
+-- no more clauses and literals than places, and at most two steps to a clause place
+abbrev pub Counts : (places room inputs clauses taken used : ℕ) → Type 0
+Counts places room inputs clauses taken used = (inputs ≤ clauses) × (clauses ≤ places) × (taken ≤ 2 * places) × (used ≤ room)
 
 -- the literals of the first k rows lie one after the other, and end at this place
 abbrev pub laidTo : List ClauseRow → (k end : ℕ) → Bool
@@ -75,7 +75,7 @@ Ordered rows clauses = (k : ℕ) → k < clauses → 0 < getD rows k blankRow .s
 pub record Sound (s : View) : Type 0 where
   pub range : Range (s .variables) (s .places) (s .room)
   pub rooms : Rooms (s .places) (s .room) (s .rows) (s .steps) (s .lits)
-  pub counts : Counts (s .places) (s .room) (s .clauses) (s .used)
+  pub counts : Counts (s .places) (s .room) (s .inputs) (s .clauses) (s .taken) (s .used)
   pub laid : Laid (s .rows) (s .clauses) (s .used)
   pub rising : Rising (s .variables) (texts s) (s .clauses)
   pub complete : Complete (texts s) (s .inputs) (s .steps) (s .taken) (s .clauses)

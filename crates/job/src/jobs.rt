@@ -8,6 +8,7 @@ use crate::rows::ClauseRow;
 use crate::rows::StepRow;
 use cnf::literals::Literal;
 
+pub mod looking;
 pub mod opening;
 
 /// A job over four lists that the caller lends: input clauses, and then steps.
@@ -35,7 +36,7 @@ pub struct Job<'a> {
     judged: bool,
     ghost range: { Range variables places room },
     ghost rooms: { Rooms places room (records .now) (steps .now) (literals .now) },
-    ghost counts: { Counts places room clauses used },
+    ghost counts: { Counts places room inputs clauses taken used },
     ghost laid: { Laid (records .now) clauses used },
     ghost rising: { Rising variables (textsIn (records .now) (literals .now) clauses) clauses },
     ghost complete: { Complete (textsIn (records .now) (literals .now) clauses) inputs (steps .now) taken clauses },
