@@ -10,11 +10,12 @@ use Rattle.std.proofs.shelf.Lists.{length-set}
 use Rattle.cnf.specs.declared.literals.Literal.{Literal}
 use Rattle.cnf.specs.Clauses.{Clause}
 use Rattle.drup.specs.History.{Step, table, isStruck, ended}
+use Rattle.drup.specs.Laws.{entryOf, strikeOf}
 use Rattle.job.specs.declared.rows.ClauseRow.{ClauseRow}
 use Rattle.job.specs.declared.rows.StepRow.{StepRow}
 use Rattle.job.specs.declared.rows.StepRow.the-variants.{Lemma, Strike}
 use Rattle.job.specs.declared.jobs.Job.{Job}
-use Rattle.job.specs.View.{View, blankRow, blankStep, clauseAt, textsIn, textIn, texts, withRows, withLits, withArcs, withJudged, bare}
+use Rattle.job.specs.View.{View, blankRow, blankStep, clauseAt, textsIn, textIn, texts, withRows, withStepRows, withLits, withArcs, withJudged, bare}
 use Rattle.job.specs.History.{downFrom, stepsFrom, inputsOf, before, stepsOf}
 use Rattle.job.specs.Sound.{Range, Rooms, Counts, Laid, Rising, Complete, isNext, Numbered, Unended, Dated, Ordered, Sound}
 use Rattle.job.specs.Seen.{view}
@@ -176,3 +177,28 @@ module _ (s : View) (o : Sound s) (last : ℕ) (h : last ≤ s .taken) (text : �
 
   pub same-unended : (k : ℕ) → k < last → ended (stepsFrom text steps k) ≡ false
   same-unended k b = ap ended (same-before k (omega arith)) ∙ o .unended k (omega arith)
+
+-- a step is written behind those in use
+pub sound-next : (s : View) (row : StepRow) → Sound s → Sound (withStepRows (set (s .steps) (s .taken) row) s)
+sound-next s row o =
+    let long = length-set (s .steps) (s .taken) row in
+    let ins = same-inputs s o (s .taken) (omega arith) (textIn (texts s)) (λ n low high. refl) (set (s .steps) (s .taken) row) kept in
+    let all = same-before s o (s .taken) (omega arith) (textIn (texts s)) (λ n low high. refl) (set (s .steps) (s .taken) row) kept (s .taken) (omega arith) in
+    record {
+      range = o .range;
+      rooms = (o .rooms .0, (let h = o .rooms .1 in omega arith), o .rooms .2);
+      counts = o .counts;
+      laid = o .laid;
+      rising = o .rising;
+      complete = o .complete ∙ ap (λ (e : List Step). length (table (inputsOf s) e)) (sym all);
+      numbered = same-numbered s o (s .taken) (omega arith) (textIn (texts s)) (λ n low high. refl) (set (s .steps) (s .taken) row) kept;
+      unended = same-unended s o (s .taken) (omega arith) (textIn (texts s)) (λ n low high. refl) (set (s .steps) (s .taken) row) kept;
+      dated = λ k h. (
+        o .dated k h .0 ∙ ap (λ (e : List Step). entryOf (inputsOf s) e (suc k)) (sym all),
+        o .dated k h .1 ∙ ap (λ (e : List Step). strikeOf e (suc k)) (sym all),
+      );
+      ordered = o .ordered;
+    }
+  where
+    kept : (j : ℕ) → j < s .taken → getD (s .steps) j blankStep ≡ getD (set (s .steps) (s .taken) row) j blankStep
+    kept j h = sym (getD-set-other (s .steps) (s .taken) j row blankStep (λ at. omega arith))

@@ -7,3 +7,4 @@ pub mod Withdrawals
 pub mod Standing
 pub mod Happening
 pub mod Copies
+pub mod Answering

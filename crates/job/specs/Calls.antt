@@ -19,7 +19,7 @@ use Rattle.job.specs.declared.rows.ClauseRow.{ClauseRow}
 use Rattle.job.specs.declared.rows.StepRow.{StepRow}
 use Rattle.job.specs.declared.rows.StepRow.the-variants.{Lemma, Strike}
 use Rattle.job.specs.Faults.{numberOf}
-use Rattle.job.specs.View.{View, blankRow, blankStep}
+use Rattle.job.specs.View.{View, blankRow, blankStep, withRows, withLits}
 use Rattle.job.specs.History.{inputsOf, stepsOf}
 
 -- the number of a refusal, 0 where there is none
@@ -82,6 +82,14 @@ newRow s c entered = record { start = s .used; len = length c; entered = entered
 -- a row whose clause is struck at a step, 0 if it lives again
 abbrev pub struckAt : ClauseRow → (step : ℕ) → ClauseRow
 struckAt row step = record { start = row .start; len = row .len; entered = row .entered; struck = step; kept = row .kept }
+
+-- the first literals of a clause are written behind those in use
+abbrev pub laying : View → Clause → (count : ℕ) → View
+laying s c count = withLits (paste (s .lits) (s .used) c count) s
+
+-- a clause and its row are written behind those in use, where they do not count yet
+abbrev pub storing : View → Clause → (entered : ℕ) → View
+storing s c entered = withRows (set (s .rows) (s .clauses) (newRow s c entered)) (laying s c (length c))
 
 -- an input clause is entered
 abbrev pub withInput : (accepted : Bool) → View → Clause → View

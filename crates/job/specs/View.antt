@@ -61,6 +61,9 @@ marks s = map (λ row. row .kept) (take (s .clauses) (s .rows))
 abbrev pub withRows : List ClauseRow → View → View
 withRows rows s = record { variables = s .variables; places = s .places; room = s .room; rows = rows; steps = s .steps; lits = s .lits; arcs = s .arcs; inputs = s .inputs; clauses = s .clauses; taken = s .taken; used = s .used; judged = s .judged }
 
+abbrev pub withStepRows : List StepRow → View → View
+withStepRows steps s = record { variables = s .variables; places = s .places; room = s .room; rows = s .rows; steps = steps; lits = s .lits; arcs = s .arcs; inputs = s .inputs; clauses = s .clauses; taken = s .taken; used = s .used; judged = s .judged }
+
 abbrev pub withLits : List Literal → View → View
 withLits lits s = record { variables = s .variables; places = s .places; room = s .room; rows = s .rows; steps = s .steps; lits = lits; arcs = s .arcs; inputs = s .inputs; clauses = s .clauses; taken = s .taken; used = s .used; judged = s .judged }
 

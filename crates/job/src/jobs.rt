@@ -8,8 +8,10 @@ use crate::rows::ClauseRow;
 use crate::rows::StepRow;
 use cnf::literals::Literal;
 
+pub mod entering;
 pub mod looking;
 pub mod opening;
+pub mod striking;
 
 /// A job over four lists that the caller lends: input clauses, and then steps.
 #[derive(Drop)]

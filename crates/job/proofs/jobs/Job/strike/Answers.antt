@@ -1,0 +1,51 @@
+use mathlib.Core.Path.{_≡_, sym, _∙_, ap, subst}
+use mathlib.Core.Bool.{true}
+use Prim.Native.Nat.{ℕ, suc, _-_}
+use native.Mathlib.Omega.{arith}
+use Rattle.std.specs.declared.result.Result.{Result}
+use Rattle.std.specs.declared.result.Result.the-variants.{Ok, Err}
+use Rattle.cnf.specs.Clauses.{Clause}
+use Rattle.cnf.specs.Arranging.{arranged}
+use Rattle.cnf.specs.Drafts.{outcome}
+use Rattle.drup.specs.History.{Live}
+use Rattle.job.specs.declared.faults.JobFault.{JobFault}
+use Rattle.job.specs.Seen.{view}
+use Rattle.job.specs.History.{inputsOf, stepsOf}
+use Rattle.job.specs.Calls.{copyIn, strikeAnswer, withStrike}
+use Rattle.job.proofs.Keeping.{sound}
+use Rattle.job.proofs.Standing.{copy-is-live}
+use Rattle.job.proofs.Answering.{makes, found-number, strike-found}
+use Rattle.job.proofs.Happening.{strike-happens}
+use Rattle.job.proofs.jobs.Job.strike.Needs as need
+
+pub put-strike-requires : need.put-strike-requires
+put-strike-requires c κs =
+    let s = view (c .args .self .now) in
+    let n = c .in-Some .n in
+    let x = c .in-Continue-clause .clause .now in
+    let f = found-number (copyIn s x) n (c .in-Some .ensures tt) in
+    let e : n ≡ suc (n - 1) = omega (arith, f .1) in
+    record {
+      live = subst (Live (inputsOf s) (stepsOf s)) (sym e) (copy-is-live s x (n - 1) (f .0 ∙ e));
+      unended = sym (c .if-is-ended .ensures tt);
+    }
+
+pub returns : need.returns
+returns c =
+    let j = c .args .self .now in
+    let s = view j in
+    let n = c .in-Some .n in
+    let ls = c .args .literals .now in
+    let x = c .in-Continue-clause .clause .now in
+    let m = makes (s .variables) ls x (outcome (c .arrange-draft .result)) (j .range .0) (c .in-Continue-clause .ensures tt) (c .arrange-draft .ensures .outcome) in
+    let f = found-number (copyIn s x) n (c .in-Some .ensures tt) in
+    let r : Result ℕ JobFault = Ok n in
+    let answer : r ≡ strikeAnswer s ls = strike-found s ls x (m .is) n (sym (c .if-is-ended .ensures tt)) (f .0) (f .1) in
+    let after : view (c .put-strike .last .self) ≡ withStrike true s (copyIn s (arranged ls)) =
+    c .put-strike .ensures .after ∙ ap (withStrike true s) (sym (f .0) ∙ ap (copyIn s) (m .same)) in
+    record {
+      lent = c .put-strike .ensures .lent;
+      answer = answer;
+      after = after;
+      happens = strike-happens s (sound j) ls r (view (c .put-strike .last .self)) answer after;
+    }
