@@ -6,7 +6,6 @@ use Prim.Native.Nat.{ℕ, zero, suc, _+_, _-_, _<_, _≤_, min}
 use native.Mathlib.Omega.{arith}
 use lib.Dec.{ltb, leb, eqb}
 use lib.ListN.{length}
-use Rattle.std.specs.declared.option.Option.the-variants.{Some, None}
 use Rattle.std.specs.declared.result.Result.{Result}
 use Rattle.std.specs.declared.result.Result.the-variants.{Ok, Err}
 use Rattle.std.proofs.shelf.Tests.{lt-ltb, le-ltb, eq-eqb, ne-eqb, or-parts, leb-false, ltb-false}
@@ -22,7 +21,7 @@ use Rattle.job.specs.declared.faults.JobFault.the-variants.{Clause as Faulty, 
 use Rattle.job.specs.View.{View}
 use Rattle.job.specs.History.{stepsOf}
 use Rattle.job.specs.Sound.{Sound}
-use Rattle.job.specs.Calls.{withClause, isFull, clauseAnswer, lemmaAnswer, copyIn, fromOne, foundOr, strikeAnswer, lastStep, withdrawAnswer}
+use Rattle.job.specs.Calls.{withClause, isFull, clauseAnswer, lemmaAnswer, copyIn, foundOr, strikeAnswer, lastStep, withdrawAnswer}
 use Rattle.job.proofs.Standing.{clause-ascending}
 
 -- literals that make a clause
@@ -87,24 +86,15 @@ module _ (s : View) (ls : List Literal) (c : Clause) (e : arrangement (s .variab
   pub strike-ended : ended (stepsOf s) ≡ true → Err Ended ≡ strikeAnswer s ls
   strike-ended h = said (arrangement (s .variables) ls) c _ (Err Ended) e (rw h refl)
 
-  pub strike-none-live : ended (stepsOf s) ≡ false → None ≡ fromOne (copyIn s c) → Err NoneLive ≡ strikeAnswer s ls
-  strike-none-live h f = said (arrangement (s .variables) ls) c _ (Err NoneLive) e (rw h (go (copyIn s c) f))
-    where
-      go : (n : ℕ) → None ≡ fromOne n → foundOr NoneLive n ≡ Err NoneLive
-      go zero f = refl
-      go (suc n) f = let z : _≡_ {A = ℕ} 0 1 = cc in absurd (omega arith)
+  pub strike-none-live : ended (stepsOf s) ≡ false → copyIn s c ≡ 0 → Err NoneLive ≡ strikeAnswer s ls
+  strike-none-live h f = said (arrangement (s .variables) ls) c _ (Err NoneLive) e (rw (h, f) refl)
 
-  pub strike-found : (n : ℕ) → ended (stepsOf s) ≡ false → copyIn s c ≡ n → 1 ≤ n → Ok n ≡ strikeAnswer s ls
-  strike-found n h f low = said (arrangement (s .variables) ls) c _ (Ok n) e (rw (h, f) (go n low))
+  pub strike-found : (n : ℕ) → ended (stepsOf s) ≡ false → n ≡ copyIn s c → 1 ≤ n → Ok n ≡ strikeAnswer s ls
+  strike-found n h f low = said (arrangement (s .variables) ls) c _ (Ok n) e (rw (h, ← f) (go n low))
     where
       go : (n : ℕ) → 1 ≤ n → foundOr NoneLive n ≡ Ok n
       go zero low = absurd (omega arith)
       go (suc n) low = refl
-
--- a number that was found
-pub found-number : (k n : ℕ) → Some n ≡ fromOne k → (k ≡ n) × (1 ≤ n)
-found-number zero n e = let z : _≡_ {A = ℕ} 0 1 = cc in absurd (omega arith)
-found-number (suc k) n e = let same : suc k ≡ n = cc in (same, omega arith)
 
 -- there is room
 pub room-for : (s : View) (count : ℕ) → s .used ≤ s .room → isFull s count ≡ false → (s .clauses < s .places) × (s .used + count ≤ s .room)

@@ -7,7 +7,6 @@ use Prim.Native.Nat.{ℕ, zero, suc, _+_, _-_, _<_, _≤_}
 use native.Mathlib.Omega.{arith}
 use lib.Dec.{eqb}
 use lib.ListN.{length, getD, drop}
-use Rattle.std.specs.declared.option.Option.the-variants.{Some}
 use Rattle.std.proofs.shelf.Lists.{drop-more, drop-all}
 use Rattle.std.proofs.shelf.Tests.{and-right, ne-eqb}
 use Rattle.cnf.specs.declared.literals.Literal.{Literal}
@@ -15,7 +14,6 @@ use Rattle.cnf.specs.Literals.{sameLiteral}
 use Rattle.cnf.specs.Clauses.{Clause}
 use Rattle.drup.specs.History.{Step, learned, sameClause, isStruck, liveCopy, ended}
 use Rattle.job.specs.History.{downFrom}
-use Rattle.job.specs.Calls.{fromOne}
 use Rattle.job.proofs.Histories.{length-down}
 
 -- what a read past the end would give
@@ -52,10 +50,6 @@ copy-down c text steps (suc m) low =
     let l = length-down text m in
     ap (λ (k : ℕ). cond (sameClause c (text (suc m)) && not (isStruck (suc k) steps)) (suc k) (liveCopy c (downFrom text m) steps)) l
     ∙ ap (λ (k : ℕ). cond (sameClause c (text (suc m)) && not (isStruck (suc m) steps)) (suc m) (liveCopy c (downFrom text k) steps)) (sym e)
-
-pub from-one : (n : ℕ) → 1 ≤ n → fromOne n ≡ Some n
-from-one zero low = absurd (omega arith)
-from-one (suc n) low = refl
 
 -- an empty lemma ends a job
 pub ended-lemma : (c : Clause) (earlier : List Step) → eqb (length c) 0 ≡ ended (learned c ∷ earlier)

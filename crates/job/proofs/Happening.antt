@@ -34,7 +34,7 @@ use Rattle.job.specs.Calls.{refusal, withClause, isFull, clauseAnswer, lemmaAn
 use Rattle.job.proofs.Entries.{inputs-input, steps-input, inputs-lemma, steps-lemma}
 use Rattle.job.proofs.Strikes.{inputs-strike, steps-strike}
 use Rattle.job.proofs.Withdrawals.{without-last, inputs-without-lemma, steps-without-lemma, inputs-without-strike, steps-without-strike}
-use Rattle.job.proofs.Standing.{begun-taken, full-same, copy-is-live}
+use Rattle.job.proofs.Standing.{begun-taken, full-same, copy-target, copy-is-live}
 
 -- a fault has a number
 refused-stays : {A : Type 0} (fault : JobFault) (new old : A) → unless (numberOf fault) new old ≡ old
@@ -96,6 +96,7 @@ module _ (s : View) (o : Sound s) (ls : List Literal) where
       by-rules (beyond (s .variables) ls) (twice ls) (ended (stepsOf s)) (eqb (copyIn s (arranged ls)) 0) (inRangeUntil (s .variables) ls) (newUntil [] ls) (copyIn s (arranged ls)) (arranged ls)
       (λ c. cond (ended (stepsOf s)) (Err Ended) (foundOr NoneLive (copyIn s c))) Ended NoneLive
       (ap (λ (r : Result ℕ JobFault). cond (ended (stepsOf s)) (Err Ended) r) (found (copyIn s (arranged ls))))
+      ∙ ap (λ (n : ℕ). cond (beyond (s .variables) ls) 4 (cond (twice ls) 5 (cond (ended (stepsOf s)) 9 (cond (eqb n 0) 11 0)))) (sym (copy-target s o (arranged ls)))
     where
       found : (n : ℕ) → foundOr NoneLive n ≡ cond (eqb n 0) (Err NoneLive) (Ok n)
       found zero = refl
@@ -146,24 +147,26 @@ module _ (s : View) (o : Sound s) (ls : List Literal) where
           (ap machineOf now
           ∙ (λ x. record { variables = s .variables; clausePlaces = s .places; literalPlaces = s .room; inputs = i x; steps = st x }), ap (λ (v : View). v .judged) now)
 
+  positive : (n : ℕ) → (n ≡ 0 → ⊥) → 1 ≤ n
+  positive zero some = absurd (some refl)
+  positive (suc n) some = omega arith
+
   pub strike-happens : (r : Result ℕ JobFault) (s′ : View) → r ≡ strikeAnswer s ls → s′ ≡ withStrike (isOk r) s (copyIn s (arranged ls))
       → Happens (boxIn s) (called (strike ls) (refusal r)) (boxIn s′)
   strike-happens r s′ answer after-that =
       happens s s′ (strike ls) r (ap refusal answer ∙ strike-refusal) (accepted r (ap refusal answer ∙ strike-refusal) after-that)
       (λ no. after-that ∙ ap (λ (b : Bool). withStrike b s (copyIn s (arranged ls))) no)
     where
-      live : (n : ℕ) → copyIn s (arranged ls) ≡ n → (n ≡ 0 → ⊥) → Live (inputsOf s) (stepsOf s) (copyIn s (arranged ls))
-      live zero e some = absurd (some refl)
-      live (suc n) e some = subst (Live (inputsOf s) (stepsOf s)) (sym e) (copy-is-live s (arranged ls) n e)
-
       accepted : (r : Result ℕ JobFault) → refusal r ≡ refused (machineOf s) (strike ls) → s′ ≡ withStrike (isOk r) s (copyIn s (arranged ls))
           → isOk r ≡ true → (machineOf s′ ≡ after (machineOf s) (strike ls)) × (s′ .judged ≡ false)
       accepted (Err fault) e now bad = let z : _≡_ {A = ℕ} 0 1 = cc in absurd (omega arith)
       accepted (Ok n) e now ok =
           let (b, (t, (on, (some, u)))) = unbroken (rules (machineOf s) (strike ls)) (omega arith) (sym e) in
-          let was = live (copyIn s (arranged ls)) refl (eqb-false (copyIn s (arranged ls)) 0 some) in
+          let k = copy-target s o (arranged ls) in
+          let apart = eqb-false (target (machineOf s) ls) 0 some in
+          let was = copy-is-live s o (arranged ls) (copyIn s (arranged ls)) refl (positive (copyIn s (arranged ls)) (λ z. apart (k ∙ z))) in
           let i = inputs-strike s o (copyIn s (arranged ls)) was in
-          let st = steps-strike s o (copyIn s (arranged ls)) was in
+          let st = steps-strike s o (copyIn s (arranged ls)) was ∙ ap (λ (n : ℕ). struck n ∷ stepsOf s) (sym k) in
           (ap machineOf now
           ∙ (λ x. record { variables = s .variables; clausePlaces = s .places; literalPlaces = s .room; inputs = i x; steps = st x }), ap (λ (v : View). v .judged) now)
 

@@ -165,7 +165,12 @@ copy-live c (d ∷ cs) steps n e = go (sameClause c d && not (isStruck (suc (len
         (omega arith, ap (λ (k : ℕ). isStruck k steps) (sym at) ∙ not-true (isStruck (suc (length cs)) steps) (h .1))
     go false t at below = let r = below at in (omega arith, r .1)
 
-pub copy-is-live : (s : View) (c : Clause) (n : ℕ) → copyIn s c ≡ suc n → Live (inputsOf s) (stepsOf s) (suc n)
-copy-is-live s c n e =
-    let r = copy-live c (table (inputsOf s) (stepsOf s)) (stepsOf s) n e in
-    record { numbered = omega arith; entered = r .0; unstruck = r .1 }
+-- it is the clause that a strike takes
+pub copy-target : (s : View) (o : Sound s) (c : Clause) → liveCopy c (table (inputsOf s) (stepsOf s)) (stepsOf s) ≡ copyIn s c
+copy-target s o c = ap (λ (cs : List Clause). liveCopy c cs (stepsOf s)) (all-down-from s o)
+
+pub copy-is-live : (s : View) (o : Sound s) (c : Clause) (n : ℕ) → n ≡ copyIn s c → 1 ≤ n → Live (inputsOf s) (stepsOf s) n
+copy-is-live s o c zero e low = absurd (omega arith)
+copy-is-live s o c (suc n) e low =
+    let r = copy-live c (table (inputsOf s) (stepsOf s)) (stepsOf s) n (copy-target s o c ∙ sym e) in
+    record { numbered = low; entered = r .0; unstruck = r .1 }

@@ -1,7 +1,8 @@
 -- What the calls of a job answer, and what they leave.
+use mathlib.Core.Path.{_≡_}
 use mathlib.Core.Bool.{Bool, true, false, cond, _||_}
 use mathlib.Core.List.{List}
-use Prim.Native.Nat.{ℕ, zero, suc, _+_, _-_}
+use Prim.Native.Nat.{ℕ, zero, suc, _+_, _-_, _≤_}
 use lib.Dec.{leb, ltb, eqb}
 use lib.ListN.{length, getD, set}
 use lib.Seq.{paste}
@@ -12,15 +13,15 @@ use Rattle.std.specs.declared.result.Result.the-variants.{Ok, Err}
 use Rattle.cnf.specs.declared.literals.Literal.{Literal}
 use Rattle.cnf.specs.Clauses.{Clause}
 use Rattle.cnf.specs.Arranging.{Arrangement, arrangement}
-use Rattle.drup.specs.History.{table, liveCopy, ended}
+use Rattle.drup.specs.History.{liveCopy, ended}
 use Rattle.job.specs.declared.faults.JobFault.{JobFault}
 use Rattle.job.specs.declared.faults.JobFault.the-variants.{Clause as Faulty, Begun, Ended, Full, NoneLive, NoStep}
 use Rattle.job.specs.declared.rows.ClauseRow.{ClauseRow}
 use Rattle.job.specs.declared.rows.StepRow.{StepRow}
 use Rattle.job.specs.declared.rows.StepRow.the-variants.{Lemma, Strike}
 use Rattle.job.specs.Faults.{numberOf}
-use Rattle.job.specs.View.{View, blankRow, blankStep, withRows, withLits}
-use Rattle.job.specs.History.{inputsOf, stepsOf}
+use Rattle.job.specs.View.{View, blankRow, blankStep, textIn, texts, withRows, withLits}
+use Rattle.job.specs.History.{downFrom, stepsOf}
 
 -- the number of a refusal, 0 where there is none
 abbrev pub refusal : {A : Type 0} → Result A JobFault → ℕ
@@ -50,12 +51,12 @@ lemmaAnswer s ls =
 
 -- the highest number of a live copy of a clause, 0 if there is none
 abbrev pub copyIn : View → Clause → ℕ
-copyIn s c = liveCopy c (table (inputsOf s) (stepsOf s)) (stepsOf s)
+copyIn s c = liveCopy c (downFrom (textIn (texts s)) (s .clauses)) (stepsOf s)
 
--- a number from 1 on, or none
-abbrev pub fromOne : ℕ → Option ℕ
-fromOne zero = None
-fromOne (suc n) = Some (suc n)
+-- that number, if there is one
+abbrev pub FoundCopy : View → Clause → Option ℕ → Type 0
+FoundCopy s c (Some n) = (n ≡ copyIn s c) × (1 ≤ n)
+FoundCopy s c None = copyIn s c ≡ 0
 
 -- a number that was found, or the refusal
 abbrev pub foundOr : JobFault → ℕ → Result ℕ JobFault
@@ -90,6 +91,40 @@ laying s c count = withLits (paste (s .lits) (s .used) c count) s
 -- a clause and its row are written behind those in use, where they do not count yet
 abbrev pub storing : View → Clause → (entered : ℕ) → View
 storing s c entered = withRows (set (s .rows) (s .clauses) (newRow s c entered)) (laying s c (length c))
+
+-- what was stored counts: as an input clause with so many literals
+abbrev pub countingInput : View → (count : ℕ) → View
+countingInput s count = record {
+  variables = s .variables;
+  places = s .places;
+  room = s .room;
+  rows = s .rows;
+  steps = s .steps;
+  lits = s .lits;
+  arcs = s .arcs;
+  inputs = s .inputs + 1;
+  clauses = s .clauses + 1;
+  taken = s .taken;
+  used = s .used + count;
+  judged = false;
+}
+
+-- or as a lemma, with its step
+abbrev pub countingLemma : View → (count : ℕ) → View
+countingLemma s count = record {
+  variables = s .variables;
+  places = s .places;
+  room = s .room;
+  rows = s .rows;
+  steps = set (s .steps) (s .taken) (Lemma (s .clauses + 1));
+  lits = s .lits;
+  arcs = s .arcs;
+  inputs = s .inputs;
+  clauses = s .clauses + 1;
+  taken = s .taken + 1;
+  used = s .used + count;
+  judged = false;
+}
 
 -- an input clause is entered
 abbrev pub withInput : (accepted : Bool) → View → Clause → View

@@ -1,6 +1,6 @@
 //! How clauses are entered: input clauses, and then lemmas.
 ghost use mathlib.Core.Path.{_≡_};
-ghost use Prim.Native.Nat.{_+_, _<_, _≤_};
+ghost use Prim.Native.Nat.{_+_, _*_, _<_, _≤_};
 ghost use lib.ListN.{length};
 ghost use Rattle.std.specs.Results.{isOk};
 ghost use Rattle.cnf.specs.Arranging.{arranged};
@@ -8,7 +8,8 @@ ghost use Rattle.drup.specs.Forward.{clause as tellClause, lemma as tellLemma};
 ghost use Rattle.drup.specs.Box.{Happens, called};
 ghost use Rattle.job.specs.Seen.{view, SameLent};
 ghost use Rattle.job.specs.History.{boxIn};
-ghost use Rattle.job.specs.Calls.{refusal, clauseAnswer, lemmaAnswer, laying, storing, withInput, withLemma};
+ghost use Rattle.job.specs.Sound.{Sound};
+ghost use Rattle.job.specs.Calls.{refusal, clauseAnswer, lemmaAnswer, laying, storing, countingInput, countingLemma, withInput, withLemma};
 use crate::faults::JobFault;
 use crate::faults::JobFromClause;
 use crate::jobs::Job;
@@ -47,6 +48,35 @@ impl Job<'_> {
         };
     }
 
+    /// Counts what was stored as an input clause with so many literals.
+    fn count_input(&mut self, count: usize)
+        requires places { ⌜ now self .clauses < now self .places ⌝ ∗ ⌜ now self .used + count ≤ now self .room ⌝ }
+        requires sound { ⌜ Sound (countingInput (view (now self)) count) ⌝ }
+        ensures lent { λ _. ⌜ SameLent (now (self .entry)) (now (self .exit)) ⌝ }
+        ensures after { λ _. ⌜ view (now (self .exit)) ≡ countingInput (view (now (self .entry))) count ⌝ }
+    {
+        self.inputs += 1;
+        self.clauses += 1;
+        self.used += count;
+        self.judged = false;
+    }
+
+    /// Counts what was stored as a lemma with so many literals, and adds its step.
+    fn count_lemma(&mut self, count: usize)
+        requires places { ⌜ now self .clauses < now self .places ⌝ ∗ ⌜ now self .used + count ≤ now self .room ⌝ ∗ ⌜ now self .taken < 2 * now self .places ⌝ }
+        requires sound { ⌜ Sound (countingLemma (view (now self)) count) ⌝ }
+        ensures lent { λ _. ⌜ SameLent (now (self .entry)) (now (self .exit)) ⌝ }
+        ensures after { λ _. ⌜ view (now (self .exit)) ≡ countingLemma (view (now (self .entry))) count ⌝ }
+    {
+        let last = self.taken;
+        let number = self.clauses as u16 + 1;
+        self.steps[last] = StepRow::Lemma(number);
+        self.clauses += 1;
+        self.taken = last + 1;
+        self.used += count;
+        self.judged = false;
+    }
+
     /// Enters an input clause, its literals in any order, and gives its number.
     pub(crate) fn clause(&mut self, literals: &[Literal]) -> Result<u16, JobFault>
         ensures lent { λ _. ⌜ SameLent (now (self .entry)) (now (self .exit)) ⌝ }
@@ -63,10 +93,7 @@ impl Job<'_> {
             return Err(JobFault::Full);
         }
         self.store(clause, 0);
-        self.inputs += 1;
-        self.clauses += 1;
-        self.used += clause.len();
-        self.judged = false;
+        self.count_input(clause.len());
         Ok(self.clauses as u16)
     }
 
@@ -85,14 +112,8 @@ impl Job<'_> {
         if self.is_full(clause.len()) {
             return Err(JobFault::Full);
         }
-        let last = self.taken;
-        let number = self.clauses as u16 + 1;
-        self.store(clause, last as u16 + 1);
-        self.steps[last] = StepRow::Lemma(number);
-        self.clauses += 1;
-        self.taken = last + 1;
-        self.used += clause.len();
-        self.judged = false;
-        Ok(number)
+        self.store(clause, self.taken as u16 + 1);
+        self.count_lemma(clause.len());
+        Ok(self.clauses as u16)
     }
 }

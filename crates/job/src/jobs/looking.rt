@@ -1,14 +1,14 @@
 //! What can be seen of a job without changing it.
 ghost use mathlib.Core.Path.{_≡_};
-ghost use mathlib.Core.Bool.{not, _&&_};
+ghost use mathlib.Core.Bool.{cond, not, _&&_};
 ghost use Prim.Native.Nat.{_-_, _≤_};
 ghost use lib.ListN.{getD};
 ghost use Rattle.cnf.specs.Literals.{sameLiteral};
-ghost use Rattle.drup.specs.History.{sameClause, isStruck, ended};
+ghost use Rattle.drup.specs.History.{sameClause, isStruck, liveCopy, ended};
 ghost use Rattle.job.specs.View.{blankRow, textIn, texts};
 ghost use Rattle.job.specs.Seen.{view};
-ghost use Rattle.job.specs.History.{stepsOf};
-ghost use Rattle.job.specs.Calls.{copyIn, fromOne};
+ghost use Rattle.job.specs.History.{downFrom, stepsOf};
+ghost use Rattle.job.specs.Calls.{FoundCopy};
 ghost use Rattle.job.specs.Calls.{isFull as noRoom};
 use crate::jobs::Job;
 use crate::records::ClauseRecord;
@@ -81,17 +81,18 @@ impl Job<'_> {
         self.places <= self.clauses || self.room - self.used < count
     }
 
-    /// Whether the clause with this number is live and has these literals.
+    /// Whether the clause with this number is live and has these literals. If it is not, a lower one may be.
     fn is_live_copy(&self, n: u16, clause: &[Literal]) -> bool
         requires { ⌜ 1 ≤ n ⌝ ∗ ⌜ n ≤ now self .clauses ⌝ }
-        ensures { λ r. ⌜ r ≡ (sameClause (now (clause .entry)) (textIn (texts (view (now (self .entry)))) n) && not (isStruck n (stepsOf (view (now (self .entry)))))) ⌝ }
+        ensures answer { λ r. ⌜ r ≡ (sameClause (now (clause .entry)) (textIn (texts (view (now (self .entry)))) n) && not (isStruck n (stepsOf (view (now (self .entry)))))) ⌝ }
+        ensures lower { λ r. ⌜ liveCopy (now (clause .entry)) (downFrom (textIn (texts (view (now (self .entry))))) n) (stepsOf (view (now (self .entry)))) ≡ cond r n (liveCopy (now (clause .entry)) (downFrom (textIn (texts (view (now (self .entry))))) (n - 1)) (stepsOf (view (now (self .entry))))) ⌝ }
     {
         same_clause(clause, self.text(n)) && self.record(n).is_live()
     }
 
     /// The highest number of a live clause with these literals.
     pub(crate) fn live_copy(&self, clause: &[Literal]) -> Option<u16>
-        ensures { λ r. ⌜ r ≡ fromOne (copyIn (view (now (self .entry))) (now (clause .entry))) ⌝ }
+        ensures { λ r. ⌜ FoundCopy (view (now (self .entry))) (now (clause .entry)) r ⌝ }
     {
         let mut n = self.clauses as u16;
         while n > 0 {

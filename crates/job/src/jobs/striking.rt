@@ -1,15 +1,15 @@
 //! How clauses are struck, and how steps are taken back.
 ghost use mathlib.Core.Path.{_≡_};
-ghost use mathlib.Core.Bool.{true, false};
-ghost use Prim.Native.Nat.{_+_, _<_, _≤_};
+ghost use mathlib.Core.Bool.{true};
+ghost use Prim.Native.Nat.{_*_, _<_, _≤_};
 ghost use Rattle.std.specs.Results.{isOk};
 ghost use Rattle.cnf.specs.Arranging.{arranged};
-ghost use Rattle.drup.specs.History.{Live, ended};
 ghost use Rattle.drup.specs.Forward.{strike as tellStrike, withdraw as tellWithdraw};
 ghost use Rattle.drup.specs.Box.{Happens, called};
 ghost use Rattle.job.specs.declared.rows.StepRow.the-variants.{Lemma, Strike};
 ghost use Rattle.job.specs.Seen.{view, SameLent};
-ghost use Rattle.job.specs.History.{inputsOf, stepsOf, boxIn};
+ghost use Rattle.job.specs.History.{boxIn};
+ghost use Rattle.job.specs.Sound.{Sound};
 ghost use Rattle.job.specs.Calls.{refusal, copyIn, strikeAnswer, withStrike, lastStep, withdrawAnswer, without};
 use crate::faults::JobFault;
 use crate::faults::JobFromClause;
@@ -21,8 +21,9 @@ use cnf::literals::Literal;
 impl Job<'_> {
     /// Adds a step that strikes the live clause with this number.
     fn put_strike(&mut self, n: u16)
-        requires live { ⌜ Live (inputsOf (view (now self))) (stepsOf (view (now self))) n ⌝ }
-        requires unended { ⌜ ended (stepsOf (view (now self))) ≡ false ⌝ }
+        requires number { ⌜ 1 ≤ n ⌝ ∗ ⌜ n ≤ now self .clauses ⌝ }
+        requires place { ⌜ now self .taken < 2 * now self .places ⌝ }
+        requires sound { ⌜ Sound (withStrike true (view (now self)) n) ⌝ }
         ensures lent { λ _. ⌜ SameLent (now (self .entry)) (now (self .exit)) ⌝ }
         ensures after { λ _. ⌜ view (now (self .exit)) ≡ withStrike true (view (now (self .entry))) n ⌝ }
     {
@@ -56,8 +57,9 @@ impl Job<'_> {
 
     /// Takes back the lemma with this number, which the latest step learned.
     fn forget(&mut self, n: u16)
-        requires some { ⌜ 0 < now self .taken ⌝ }
-        requires last { ⌜ lastStep (view (now self)) ≡ Lemma n ⌝ }
+        requires number { ⌜ 1 ≤ n ⌝ ∗ ⌜ n ≤ now self .clauses ⌝ }
+        requires some { ⌜ 1 ≤ now self .taken ⌝ }
+        requires sound { ⌜ Sound (without true (view (now self)) (Lemma n)) ⌝ }
         ensures lent { λ _. ⌜ SameLent (now (self .entry)) (now (self .exit)) ⌝ }
         ensures after { λ _. ⌜ view (now (self .exit)) ≡ without true (view (now (self .entry))) (Lemma n) ⌝ }
     {
@@ -71,8 +73,9 @@ impl Job<'_> {
 
     /// Brings the clause with this number back to life, which the latest step struck.
     fn revive(&mut self, n: u16)
-        requires some { ⌜ 0 < now self .taken ⌝ }
-        requires last { ⌜ lastStep (view (now self)) ≡ Strike n ⌝ }
+        requires number { ⌜ 1 ≤ n ⌝ ∗ ⌜ n ≤ now self .clauses ⌝ }
+        requires some { ⌜ 1 ≤ now self .taken ⌝ }
+        requires sound { ⌜ Sound (without true (view (now self)) (Strike n)) ⌝ }
         ensures lent { λ _. ⌜ SameLent (now (self .entry)) (now (self .exit)) ⌝ }
         ensures after { λ _. ⌜ view (now (self .exit)) ≡ without true (view (now (self .entry))) (Strike n) ⌝ }
     {

@@ -1,5 +1,6 @@
 use mathlib.Core.Path.{_≡_, sym, _∙_, ap}
 use mathlib.Core.Bool.{true}
+use Prim.Native.Nat.{_<_}
 use native.Mathlib.Omega.{arith}
 use Rattle.std.specs.declared.result.Result.{Result}
 use Rattle.std.specs.declared.result.Result.the-variants.{Ok, Err}
@@ -9,9 +10,28 @@ use Rattle.job.specs.declared.rows.StepRow.the-variants.{Lemma, Strike}
 use Rattle.job.specs.Seen.{view}
 use Rattle.job.specs.Calls.{without, withdrawAnswer, lastStep}
 use Rattle.job.proofs.Keeping.{sound}
+use Rattle.job.proofs.Withdrawals.{last-clause, number-positive, sound-without-lemma, struck-place, struck-number, sound-without-strike}
 use Rattle.job.proofs.Answering.{withdraw-done}
 use Rattle.job.proofs.Happening.{withdraw-happens}
 use Rattle.job.proofs.jobs.Job.withdraw.Needs as need
+
+pub forget-requires : need.forget-requires
+forget-requires c κs =
+    let j = c .args .self .now in
+    let n = c .in-Lemma .n in
+    let some : 0 < j .taken = omega arith in
+    let last = last-clause (view j) (sound j) some n (c .in-Lemma .is) in
+    let low = number-positive (view j) (sound j) some n (c .in-Lemma .is) in
+    record { number = (low, omega arith); some = omega arith; sound = sound-without-lemma (view j) (sound j) some n (c .in-Lemma .is) }
+
+pub revive-requires : need.revive-requires
+revive-requires c κs =
+    let j = c .args .self .now in
+    let n = c .in-Strike .n in
+    let some : 0 < j .taken = omega arith in
+    let place = struck-place (view j) (sound j) some n (c .in-Strike .is) in
+    let low = struck-number (view j) (sound j) some n (c .in-Strike .is) in
+    record { number = (low, omega arith); some = omega arith; sound = sound-without-strike (view j) (sound j) some n (c .in-Strike .is) }
 
 pub returns-in-Lemma : need.returns-in-Lemma
 returns-in-Lemma c =
