@@ -11,12 +11,13 @@ use Rattle.cnf.specs.declared.literals.Literal.{Literal}
 use Rattle.cnf.specs.Clauses.{Clause}
 use Rattle.drup.specs.History.{Step, table, isStruck, ended}
 use Rattle.drup.specs.Laws.{entryOf, strikeOf}
+use Rattle.drup.specs.Forward.{Machine}
 use Rattle.job.specs.declared.rows.ClauseRow.{ClauseRow}
 use Rattle.job.specs.declared.rows.StepRow.{StepRow}
 use Rattle.job.specs.declared.rows.StepRow.the-variants.{Lemma, Strike}
 use Rattle.job.specs.declared.jobs.Job.{Job}
 use Rattle.job.specs.View.{View, blankRow, blankStep, clauseAt, textsIn, textIn, texts, withRows, withStepRows, withLits, withArcs, withJudged, bare}
-use Rattle.job.specs.History.{downFrom, stepsFrom, inputsOf, before, stepsOf}
+use Rattle.job.specs.History.{downFrom, stepsFrom, inputsOf, before, stepsOf, machineOf}
 use Rattle.job.specs.Sound.{Range, Rooms, Counts, Laid, Rising, Complete, isNext, Numbered, Unended, Dated, Ordered, Sound}
 use Rattle.job.specs.Seen.{view}
 use Rattle.job.proofs.Histories.{down-same, steps-same, table-up, lemma-range, length-down}
@@ -113,6 +114,20 @@ module _ (s : View) (rows : List ClauseRow) (e : length rows ≡ length (s .rows
         let c = o .ordered k h (omega arith) in
         omega arith;
   }
+
+  -- and the machine stays
+  pub machine-marked : machineOf (withRows rows s) ≡ machineOf s
+  machine-marked =
+      ap (λ (ts : List Clause). machineRead (s .variables) (s .places) (s .room) ts (s .inputs) (s .steps) (s .taken)) texts-marked
+    where
+      machineRead : (variables places room : ℕ) → List Clause → (inputs : ℕ) → List StepRow → (taken : ℕ) → Machine
+      machineRead variables places room ts inputs steps taken = record {
+        variables = variables;
+        clausePlaces = places;
+        literalPlaces = room;
+        inputs = downFrom (textIn ts) inputs;
+        steps = stepsFrom (textIn ts) steps taken;
+      }
 
 -- a row is written behind those in use
 pub sound-behind : (s : View) (p : ℕ) (row : ClauseRow) → s .clauses ≤ p → Sound s → Sound (withRows (set (s .rows) p row) s)

@@ -13,17 +13,18 @@ use Rattle.cnf.specs.Clauses.{Clause, _∈_, Rising as IsRising, IsClause, lite
 use Rattle.cnf.specs.Arranging.{arranged}
 use Rattle.cnf.specs.Ascending.{ascending}
 use Rattle.cnf.proofs.Arranging.{all-cons, arranged-length}
-use Rattle.drup.specs.History.{Step, learned, struck, table, text, isStruck, begun, sameClause, liveCopy, Live}
+use Rattle.drup.specs.History.{Step, learned, struck, table, nextNumber, text, isStruck, begun, lemmas, sameClause, liveCopy, Live}
 use Rattle.drup.specs.Forward.{Machine, clauses, full}
 use Rattle.drup.specs.WellFormed.{WellFormed}
 use Rattle.drup.specs.Laws.{StrikesLive}
 use Rattle.drup.proofs.Numbers.{text-newest, text-older, at-most}
 use Rattle.job.specs.declared.rows.StepRow.{StepRow}
-use Rattle.job.specs.View.{View, blankRow, textIn, texts}
-use Rattle.job.specs.History.{downFrom, stepsFrom, inputsOf, before, stepsOf, machineOf}
+use Rattle.job.specs.declared.rows.StepRow.the-variants.{Lemma, Strike}
+use Rattle.job.specs.View.{View, blankRow, blankStep, textIn, texts}
+use Rattle.job.specs.History.{downFrom, stepOf, stepsFrom, inputsOf, before, stepsOf, machineOf}
 use Rattle.job.specs.Sound.{Sound}
 use Rattle.job.specs.Calls.{isFull, copyIn}
-use Rattle.job.proofs.Histories.{length-down, table-down, strikes-live, only-last, strike-none, none-strike}
+use Rattle.job.proofs.Histories.{length-down, table-down, strikes-live, only-last, strike-none, none-strike, next-lemma, next-strike, lemma-range, inputs-within}
 use Rattle.job.proofs.Texts.{laid-literals}
 
 -- the test of a clause is right
@@ -125,6 +126,50 @@ module _ (s : View) (o : Sound s) where
             ∙ ap not (sym e)
         | inr e ↦ eq-eqb (getD (s .rows) k blankRow .struck) 0 (d ∙ strike-none (stepsOf s) (suc k) e) ∙ ap not (sym e)
       ]
+
+  -- the step k + 1, if it learned a lemma
+  pub lemma-at : (k : ℕ) → k < s .taken → (n : ℕ) → getD (s .steps) k blankStep ≡ Lemma n
+      → (n ≡ nextNumber (inputsOf s) (before s k))
+      × (s .inputs < n)
+      × (n ≤ s .clauses)
+      × (before s (suc k) ≡ learned (textIn (texts s) n) ∷ before s k)
+  lemma-at k h n e =
+      let number = next-lemma (inputsOf s) (before s k) (getD (s .steps) k blankStep) n (o .numbered k h) e in
+      let high = lemma-range (textIn (texts s)) (s .inputs) (s .steps) (s .taken) (o .numbered) k h n e .1 in
+      let low = inputs-within (textIn (texts s)) (s .inputs) (s .steps) k (λ j b. o .numbered j (omega arith)) in
+      let all = o .complete in
+      (number, omega arith, omega arith, ap (λ (row : StepRow). stepOf (textIn (texts s)) row ∷ before s k) e)
+
+  -- the step k + 1, if it struck a clause
+  pub strike-at : (k : ℕ) → k < s .taken → (n : ℕ) → getD (s .steps) k blankStep ≡ Strike n
+      → Live (inputsOf s) (before s k) n × (before s (suc k) ≡ struck n ∷ before s k)
+  strike-at k h n e =
+      (next-strike (inputsOf s) (before s k) (getD (s .steps) k blankStep) n (o .numbered k h) e,
+      ap (λ (row : StepRow). stepOf (textIn (texts s)) row ∷ before s k) e)
+
+  -- so far each strike hit a live clause
+  pub strikes-at : (k : ℕ) → k ≤ s .taken → StrikesLive (inputsOf s) (before s k)
+  strikes-at = strikes-live (textIn (texts s)) (s .inputs) (s .steps) (s .taken) (o .numbered)
+
+  -- so far each number has the clause of its row
+  pub text-at-step : (k : ℕ) → k ≤ s .taken → (n : ℕ) → 1 ≤ n → n ≤ length (table (inputsOf s) (before s k))
+      → text (table (inputsOf s) (before s k)) n ≡ textIn (texts s) n
+  text-at-step k h n low high =
+      ap (λ (cs : List Clause). text cs n) (table-down (textIn (texts s)) (s .inputs) (s .steps) (s .taken) (o .numbered) k h)
+      ∙ text-down (textIn (texts s)) (length (table (inputsOf s) (before s k))) n low high
+
+  -- the clauses behind the inputs are the lemmas
+  pub all-lemmas : s .inputs + lemmas (stepsOf s) ≡ s .clauses
+  all-lemmas =
+      let a = tabled (inputsOf s) (stepsOf s) in
+      let b = length-down (textIn (texts s)) (s .inputs) in
+      let c = o .complete in
+      omega arith
+    where
+      tabled : (inputs : List Clause) (steps : List Step) → length (table inputs steps) ≡ length inputs + lemmas steps
+      tabled inputs [] = omega arith
+      tabled inputs (learned c ∷ earlier) = let h = tabled inputs earlier in omega arith
+      tabled inputs (struck n ∷ earlier) = tabled inputs earlier
 
 -- there is a step
 pub begun-taken : (text : ℕ → Clause) (steps : List StepRow) (k : ℕ) → begun (stepsFrom text steps k) ≡ ltb 0 k
