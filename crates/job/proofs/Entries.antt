@@ -59,7 +59,6 @@ undated : (ins : List Clause) (e : List Step) (n : ℕ) → e ≡ [] → (0 ≡ 
 undated ins e n p = (rw p refl, rw p refl)
 
 module _ (s : View) (o : Sound s) (c : Clause) (entered : ℕ) (place : s .clauses < s .places) (fits : s .used + length c ≤ s .room) where
-
   -- the clauses
   pub texts-now : textsIn (set (s .rows) (s .clauses) (newRow s c entered)) (paste (s .lits) (s .used) c (length c)) (s .clauses + 1) ≡ texts s ++ c ∷ []
   texts-now =
@@ -89,8 +88,8 @@ module _ (s : View) (o : Sound s) (c : Clause) (entered : ℕ) (place : s .claus
       let old : laidTo (set (s .rows) (s .clauses) (newRow s c entered)) (s .clauses) (s .used) ≡ true =
       laid-same (set (s .rows) (s .clauses) (newRow s c entered)) (s .rows) (s .clauses) (s .used)
       (λ k h.
-          let e = getD-set-other (s .rows) (s .clauses) k (newRow s c entered) blankRow (λ at. omega arith) in
-          (ap (λ (r : ClauseRow). r .start) e, ap (λ (r : ClauseRow). r .len) e))
+      let e = getD-set-other (s .rows) (s .clauses) k (newRow s c entered) blankRow (λ at. omega arith) in
+      (ap (λ (r : ClauseRow). r .start) e, ap (λ (r : ClauseRow). r .len) e))
       ∙ o .laid in
       rw (add-one, row) (and-from _ _ (eq-eqb (s .used + length c) (s .used + length c) refl) old)
 
@@ -168,10 +167,10 @@ module _ (s : View) (o : Sound s) (c : Clause) (first : s .taken ≡ 0) (place :
             × (getD (set (s .rows) (s .clauses) (newRow s c 0)) k blankRow .struck ≡ strikeOf (stepsOf (withInput true s c)) (suc k)))
             (s .clauses)
             (λ k h.
-                let other = getD-set-other (s .rows) (s .clauses) k (newRow s c 0) blankRow (λ at. omega arith) in
-                let d = o .dated k h in
-                let m = dated-input (inputsOf s) (inputsOf (withInput true s c)) (stepsOf s) (stepsOf (withInput true s c)) (suc k) none′ none in
-                (ap (λ (r : ClauseRow). r .entered) other ∙ d .0 ∙ m .0, ap (λ (r : ClauseRow). r .struck) other ∙ d .1 ∙ m .1))
+            let other = getD-set-other (s .rows) (s .clauses) k (newRow s c 0) blankRow (λ at. omega arith) in
+            let d = o .dated k h in
+            let m = dated-input (inputsOf s) (inputsOf (withInput true s c)) (stepsOf s) (stepsOf (withInput true s c)) (suc k) none′ none in
+            (ap (λ (r : ClauseRow). r .entered) other ∙ d .0 ∙ m .0, ap (λ (r : ClauseRow). r .struck) other ∙ d .1 ∙ m .1))
             (let u = undated (inputsOf (withInput true s c)) (stepsOf (withInput true s c)) (suc (s .clauses)) none in
             (ap (λ (r : ClauseRow). r .entered) row ∙ u .0, ap (λ (r : ClauseRow). r .struck) row ∙ u .1));
         ordered = ordered-now s o c 0 place fits;
@@ -268,10 +267,10 @@ module _ (s : View) (o : Sound s) (c : Clause) (place : s .clauses < s .places) 
             × (getD (set (s .rows) (s .clauses) (newRow s c (s .taken + 1))) k blankRow .struck ≡ strikeOf (stepsOf (withLemma true s c)) (suc k)))
             (s .clauses)
             (λ k h.
-                let other = getD-set-other (s .rows) (s .clauses) k (newRow s c (s .taken + 1)) blankRow (λ at. omega arith) in
-                let was = o .dated k h in
-                let m = dated-lemma (inputsOf s) (inputsOf (withLemma true s c)) (stepsOf s) (stepsOf (withLemma true s c)) c inputs-lemma steps-lemma k (omega arith) in
-                (ap (λ (r : ClauseRow). r .entered) other ∙ was .0 ∙ m .0, ap (λ (r : ClauseRow). r .struck) other ∙ was .1 ∙ m .1))
+            let other = getD-set-other (s .rows) (s .clauses) k (newRow s c (s .taken + 1)) blankRow (λ at. omega arith) in
+            let was = o .dated k h in
+            let m = dated-lemma (inputsOf s) (inputsOf (withLemma true s c)) (stepsOf s) (stepsOf (withLemma true s c)) c inputs-lemma steps-lemma k (omega arith) in
+            (ap (λ (r : ClauseRow). r .entered) other ∙ was .0 ∙ m .0, ap (λ (r : ClauseRow). r .struck) other ∙ was .1 ∙ m .1))
             (let u = dated-new (inputsOf s) (inputsOf (withLemma true s c)) (stepsOf s) (stepsOf (withLemma true s c)) c inputs-lemma steps-lemma strikes-so-far (s .clauses) (s .taken) d (sym all) in
             (ap (λ (r : ClauseRow). r .entered) row ∙ u .0, ap (λ (r : ClauseRow). r .struck) row ∙ u .1));
         ordered = ordered-now s o c (s .taken + 1) place fits;

@@ -126,9 +126,11 @@ module _ (s : View) (o : Sound s) (ls : List Literal) where
           let none-taken : s .taken ≡ 0 = omega arith in
           let room = room-left f in
           let i = inputs-input s o (arranged ls) none-taken (room .0) (room .1) in
-          let st = steps-input s o (arranged ls) none-taken (room .0) (room .1) in
-          (ap machineOf now
-          ∙ (λ x. record { variables = s .variables; clausePlaces = s .places; literalPlaces = s .room; inputs = i x; steps = st x }), ap (λ (v : View). v .judged) now)
+          let st = steps-input s o (arranged ls) none-taken (room .0) (room .1) in (
+            ap machineOf now
+                ∙ (λ x. record { variables = s .variables; clausePlaces = s .places; literalPlaces = s .room; inputs = i x; steps = st x }),
+            ap (λ (v : View). v .judged) now,
+          )
 
   pub lemma-happens : (r : Result ℕ JobFault) (s′ : View) → r ≡ lemmaAnswer s ls → s′ ≡ withLemma (isOk r) s (arranged ls)
       → Happens (boxIn s) (called (lemma ls) (refusal r)) (boxIn s′)
@@ -143,9 +145,11 @@ module _ (s : View) (o : Sound s) (ls : List Literal) where
           let (b, (t, (on, (f, u)))) = unbroken (rules (machineOf s) (lemma ls)) (omega arith) (sym e) in
           let room = room-left f in
           let i = inputs-lemma s o (arranged ls) (room .0) (room .1) in
-          let st = steps-lemma s o (arranged ls) (room .0) (room .1) in
-          (ap machineOf now
-          ∙ (λ x. record { variables = s .variables; clausePlaces = s .places; literalPlaces = s .room; inputs = i x; steps = st x }), ap (λ (v : View). v .judged) now)
+          let st = steps-lemma s o (arranged ls) (room .0) (room .1) in (
+            ap machineOf now
+                ∙ (λ x. record { variables = s .variables; clausePlaces = s .places; literalPlaces = s .room; inputs = i x; steps = st x }),
+            ap (λ (v : View). v .judged) now,
+          )
 
   positive : (n : ℕ) → (n ≡ 0 → ⊥) → 1 ≤ n
   positive zero some = absurd (some refl)
@@ -166,9 +170,11 @@ module _ (s : View) (o : Sound s) (ls : List Literal) where
           let apart = eqb-false (target (machineOf s) ls) 0 some in
           let was = copy-is-live s o (arranged ls) (copyIn s (arranged ls)) refl (positive (copyIn s (arranged ls)) (λ z. apart (k ∙ z))) in
           let i = inputs-strike s o (copyIn s (arranged ls)) was in
-          let st = steps-strike s o (copyIn s (arranged ls)) was ∙ ap (λ (n : ℕ). struck n ∷ stepsOf s) (sym k) in
-          (ap machineOf now
-          ∙ (λ x. record { variables = s .variables; clausePlaces = s .places; literalPlaces = s .room; inputs = i x; steps = st x }), ap (λ (v : View). v .judged) now)
+          let st = steps-strike s o (copyIn s (arranged ls)) was ∙ ap (λ (n : ℕ). struck n ∷ stepsOf s) (sym k) in (
+            ap machineOf now
+                ∙ (λ x. record { variables = s .variables; clausePlaces = s .places; literalPlaces = s .room; inputs = i x; steps = st x }),
+            ap (λ (v : View). v .judged) now,
+          )
 
 module _ (s : View) (o : Sound s) where
   withdraw-refusal : refusal (withdrawAnswer s) ≡ refused (machineOf s) withdraw

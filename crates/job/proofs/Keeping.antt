@@ -76,8 +76,8 @@ texts-beyond s p l above below o =
     let room : s .clauses ≤ length (s .rows) = (let a = o .rooms .0 in let b = o .counts .1 in omega arith) in
     texts-same (s .rows) (s .rows) (set (s .lits) p l) (s .lits) (s .clauses) room room
     (λ k h.
-        let w = laid-within (s .rows) (s .clauses) (s .used) (o .laid) k h in
-        clause-beyond (s .lits) p l (getD (s .rows) k blankRow) (omega arith) below)
+    let w = laid-within (s .rows) (s .clauses) (s .used) (o .laid) k h in
+    clause-beyond (s .lits) p l (getD (s .rows) k blankRow) (omega arith) below)
 
 pub sound-beyond : (s : View) (p : ℕ) (l : Literal) → s .used ≤ p → p < length (s .lits) → Sound s → Sound (withLits (set (s .lits) p l) s)
 sound-beyond s p l above below o = sound-lits s (set (s .lits) p l) (length-set (s .lits) p l) (texts-beyond s p l above below o) o

@@ -143,9 +143,10 @@ module _ (s : View) (o : Sound s) where
   -- the step k + 1, if it struck a clause
   pub strike-at : (k : ℕ) → k < s .taken → (n : ℕ) → getD (s .steps) k blankStep ≡ Strike n
       → Live (inputsOf s) (before s k) n × (before s (suc k) ≡ struck n ∷ before s k)
-  strike-at k h n e =
-      (next-strike (inputsOf s) (before s k) (getD (s .steps) k blankStep) n (o .numbered k h) e,
-      ap (λ (row : StepRow). stepOf (textIn (texts s)) row ∷ before s k) e)
+  strike-at k h n e = (
+    next-strike (inputsOf s) (before s k) (getD (s .steps) k blankStep) n (o .numbered k h) e,
+    ap (λ (row : StepRow). stepOf (textIn (texts s)) row ∷ before s k) e,
+  )
 
   -- so far each strike hit a live clause
   pub strikes-at : (k : ℕ) → k ≤ s .taken → StrikesLive (inputsOf s) (before s k)

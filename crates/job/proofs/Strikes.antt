@@ -53,8 +53,8 @@ module _ (s : View) (o : Sound s) (p t : ℕ) where
       let e = length-set (s .rows) p (struckAt (getD (s .rows) p blankRow) t) in
       texts-same (set (s .rows) p (struckAt (getD (s .rows) p blankRow) t)) (s .rows) (s .lits) (s .lits) (s .clauses) (omega arith) (omega arith)
       (λ k h.
-          let r = struck-row (s .rows) p t k in
-          same-clause (getD (set (s .rows) p (struckAt (getD (s .rows) p blankRow) t)) k blankRow) (getD (s .rows) k blankRow) r)
+      let r = struck-row (s .rows) p t k in
+      same-clause (getD (set (s .rows) p (struckAt (getD (s .rows) p blankRow) t)) k blankRow) (getD (s .rows) k blankRow) r)
     where
       same-clause : (row was : ClauseRow) → SameButStruck row was → clauseAt (s .lits) row ≡ clauseAt (s .lits) was
       same-clause row was r = let a = r .start in let b = r .len in cc

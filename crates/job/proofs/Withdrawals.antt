@@ -209,10 +209,12 @@ module _ (s : View) (o : Sound s) (some : 0 < s .taken) where
               let was = o .dated k h in
               let m = dated-strike (inputsOf s) (inputsOf s) (before s (s .taken - 1)) (stepsOf s) n refl split-strike (suc k) in
               let ins = inputs-without-strike in
-              let es = steps-without-strike in
-              (r .entered ∙ was .0 ∙ sym (m .0)
-              ∙ ap (λ (is : List Clause). entryOf is (before s (s .taken - 1)) (suc k)) (sym ins)
-              ∙ ap (λ (e : List Step). entryOf (inputsOf (without true s (Strike n))) e (suc k)) (sym es), alive-date k h);
+              let es = steps-without-strike in (
+                r .entered ∙ was .0 ∙ sym (m .0)
+                    ∙ ap (λ (is : List Clause). entryOf is (before s (s .taken - 1)) (suc k)) (sym ins)
+                    ∙ ap (λ (e : List Step). entryOf (inputsOf (without true s (Strike n))) e (suc k)) (sym es),
+                alive-date k h,
+              );
           ordered = λ k h live.
               let r = struck-row (s .rows) (n - 1) 0 k in
               let q = r .entered in

@@ -28,6 +28,8 @@ pub loop-j-again : need.loop-j-again
 loop-j-again c =
     let s = view (c .args .self .now) in
     let ls = c .args .clause .now in
-    let j = c .loop-j .j in
-    (c .loop-j .inv .0, ap (λ (t : View). withLits (set (t .lits) (s .used + j) (getD ls j blank)) t) (c .loop-j .inv .1)
-    ∙ ap (λ xs. withLits xs s) (paste-more (s .lits) (s .used) ls j blank (omega arith) (omega arith)))
+    let j = c .loop-j .j in (
+      c .loop-j .inv .0,
+      ap (λ (t : View). withLits (set (t .lits) (s .used + j) (getD ls j blank)) t) (c .loop-j .inv .1)
+          ∙ ap (λ xs. withLits xs s) (paste-more (s .lits) (s .used) ls j blank (omega arith) (omega arith)),
+    )
