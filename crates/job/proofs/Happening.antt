@@ -190,15 +190,11 @@ module _ (s : View) (o : Sound s) where
             ∙ ap (λ (x : Bool). cond (not x) 12 0) (sym b)
       ]
 
-  not-accepted : (row : StepRow) → without false s row ≡ s
-  not-accepted (Lemma n) = refl
-  not-accepted (Strike n) = refl
-
   pub withdraw-happens : (r : Result StepRow JobFault) (s′ : View) → r ≡ withdrawAnswer s → s′ ≡ without (isOk r) s (lastStep s)
       → Happens (boxIn s) (called withdraw (refusal r)) (boxIn s′)
   withdraw-happens r s′ answer after-that =
       happens s s′ withdraw r (ap refusal answer ∙ withdraw-refusal) (accepted r (ap refusal answer ∙ withdraw-refusal) after-that)
-      (λ no. after-that ∙ ap (λ (b : Bool). without b s (lastStep s)) no ∙ not-accepted (lastStep s))
+      (λ no. after-that ∙ ap (λ (b : Bool). without b s (lastStep s)) no)
     where
       by-step : 0 < s .taken → (row : StepRow) → lastStep s ≡ row
           → (machineOf (without true s row) ≡ after (machineOf s) withdraw) × (without true s row .judged ≡ false)

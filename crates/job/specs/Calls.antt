@@ -177,33 +177,34 @@ withStrike accepted s n = record {
   judged = cond accepted false (s .judged);
 }
 
--- this latest step is taken back: a lemma is gone, and its places can be used again; a struck clause lives again
+-- the rows once this step is taken back: a struck clause lives again
+abbrev pub rowsWithout : View → StepRow → List ClauseRow
+rowsWithout s (Lemma n) = s .rows
+rowsWithout s (Strike n) = set (s .rows) (n - 1) (struckAt (getD (s .rows) (n - 1) blankRow) 0)
+
+-- the clauses: a lemma is gone
+abbrev pub clausesWithout : View → StepRow → ℕ
+clausesWithout s (Lemma n) = n - 1
+clausesWithout s (Strike n) = s .clauses
+
+-- the literals: those of a lemma are gone
+abbrev pub usedWithout : View → StepRow → ℕ
+usedWithout s (Lemma n) = getD (s .rows) (n - 1) blankRow .start
+usedWithout s (Strike n) = s .used
+
+-- this latest step is taken back; its places can be used again
 abbrev pub without : (accepted : Bool) → View → StepRow → View
-without accepted s (Lemma n) = record {
+without accepted s step = record {
   variables = s .variables;
   places = s .places;
   room = s .room;
-  rows = s .rows;
+  rows = cond accepted (rowsWithout s step) (s .rows);
   steps = s .steps;
   lits = s .lits;
   arcs = s .arcs;
   inputs = s .inputs;
-  clauses = cond accepted (n - 1) (s .clauses);
+  clauses = cond accepted (clausesWithout s step) (s .clauses);
   taken = cond accepted (s .taken - 1) (s .taken);
-  used = cond accepted (getD (s .rows) (n - 1) blankRow .start) (s .used);
-  judged = cond accepted false (s .judged);
-}
-without accepted s (Strike n) = record {
-  variables = s .variables;
-  places = s .places;
-  room = s .room;
-  rows = cond accepted (set (s .rows) (n - 1) (struckAt (getD (s .rows) (n - 1) blankRow) 0)) (s .rows);
-  steps = s .steps;
-  lits = s .lits;
-  arcs = s .arcs;
-  inputs = s .inputs;
-  clauses = s .clauses;
-  taken = cond accepted (s .taken - 1) (s .taken);
-  used = s .used;
+  used = cond accepted (usedWithout s step) (s .used);
   judged = cond accepted false (s .judged);
 }

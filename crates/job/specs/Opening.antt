@@ -1,5 +1,6 @@
 -- How a job is opened.
 use mathlib.Core.Bool.{Bool, false, cond, _||_}
+use mathlib.Core.Option.{none}
 use mathlib.Core.List.{List}
 use Prim.Native.Nat.{ℕ, _*_}
 use lib.Dec.{ltb, eqb}
@@ -8,6 +9,8 @@ use Rattle.std.specs.declared.result.Result.{Result}
 use Rattle.std.specs.declared.result.Result.the-variants.{Ok, Err}
 use Rattle.std.specs.Results.{isOk}
 use Rattle.cnf.specs.declared.literals.Literal.{Literal}
+use Rattle.drup.specs.Forward.{opened}
+use Rattle.drup.specs.Box.{Box}
 use Rattle.job.specs.declared.faults.JobFault.{JobFault}
 use Rattle.job.specs.declared.faults.JobFault.the-variants.{TooSmall, Limits}
 use Rattle.job.specs.declared.rows.ClauseRow.{ClauseRow}
@@ -49,3 +52,7 @@ abbrev pub openedOver : (variables places room : ℕ) → List ClauseRow → Lis
 openedOver variables places room rows steps lits arcs =
     let fits = isOk (fitting variables places room rows steps lits) in
     fresh (cond fits variables 0) (cond fits places 0) (cond fits room 0) rows steps lits arcs
+
+-- a box that was told nothing, and is not judged
+abbrev pub newBox : (variables places room : ℕ) → Box
+newBox variables places room = record { machine = opened variables places room; verdict = none }

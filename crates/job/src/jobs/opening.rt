@@ -1,11 +1,9 @@
 //! How a job is opened.
 ghost use mathlib.Core.Path.{_≡_};
-ghost use Prim.Native.Nat.{_≤_};
 ghost use denote.Ref.{name};
-ghost use Rattle.drup.specs.Forward.{opened};
 ghost use Rattle.job.specs.Seen.{view};
-ghost use Rattle.job.specs.History.{machineOf};
-ghost use Rattle.job.specs.Opening.{fitting, openedOver};
+ghost use Rattle.job.specs.History.{boxIn};
+ghost use Rattle.job.specs.Opening.{fitting, openedOver, newBox};
 use crate::faults::JobFault;
 use crate::jobs::Job;
 use crate::rows::ClauseRow;
@@ -52,7 +50,7 @@ pub fn open<'a>(
 ) -> Job<'a>
     ensures lent { λ r. ⌜ (name (r .records) ≡ name (records .entry)) × (name (r .steps) ≡ name (steps .entry)) × (name (r .literals) ≡ name (literals .entry)) × (name (r .arcs) ≡ name (arcs .entry)) ⌝ }
     ensures holds { λ r. ⌜ view r ≡ openedOver variables places room (now (records .entry)) (now (steps .entry)) (now (literals .entry)) (now (arcs .entry)) ⌝ }
-    ensures machine { λ r. ⌜ machineOf (view r) ≡ opened (r .variables) (r .places) (r .room) ⌝ }
+    ensures starts { λ r. ⌜ boxIn (view r) ≡ newBox (r .variables) (r .places) (r .room) ⌝ }
 {
     if fits(variables, places, room, records, steps, literals).is_err() {
         return Job {
