@@ -3,12 +3,10 @@ ghost use mathlib.Core.Path.{_≡_};
 ghost use Rattle.job.specs.Faults.{numberOf, layerOf, placeOf};
 ghost use Rattle.job.specs.declared.faults.JobFault.the-variants.{Clause};
 use cnf::faults::ClauseFault;
-use cnf::faults::ClauseFaultDebug;
-use cnf::faults::ClauseFaultPartialEq;
 use cnf::faults::Layer;
 
 /// Why a job refuses a call.
-#[derive(Clone, Copy, PartialEq, Eq, Debug)]
+#[derive(Clone, Copy)]
 pub enum JobFault {
     /// What is wrong with the literals of a call.
     Clause(ClauseFault),

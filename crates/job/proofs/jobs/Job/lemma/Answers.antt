@@ -9,16 +9,27 @@ use Rattle.std.specs.declared.result.Result.the-variants.{Ok, Err}
 use Rattle.cnf.specs.Arranging.{arranged}
 use Rattle.cnf.specs.Drafts.{outcome}
 use Rattle.job.specs.declared.faults.JobFault.{JobFault}
-use Rattle.job.specs.declared.faults.JobFault.the-variants.{Full}
+use Rattle.job.specs.declared.faults.JobFault.the-variants.{Ended, Full}
 use Rattle.job.specs.View.{View}
 use Rattle.job.specs.Seen.{view}
 use Rattle.job.specs.Sound.{Sound}
 use Rattle.job.specs.Calls.{lemmaAnswer, countingLemma, withLemma}
 use Rattle.job.proofs.Keeping.{sound}
 use Rattle.job.proofs.Entries.{step-bound, sound-lemma}
-use Rattle.job.proofs.Answering.{makes, room-for, lemma-full, lemma-entered}
+use Rattle.job.proofs.Answering.{makes, room-for, lemma-ended, lemma-full, lemma-entered}
 use Rattle.job.proofs.Happening.{lemma-happens}
 use Rattle.job.proofs.jobs.Job.lemma.Needs as need
+
+pub returns-then-is-ended : need.returns-then-is-ended
+returns-then-is-ended c =
+    let j = c .args .self .now in
+    let s = view j in
+    let ls = c .args .literals .now in
+    let x = c .in-Continue-clause .clause .now in
+    let m = makes (s .variables) ls x (outcome (c .arrange-draft .result)) (j .range .0) (c .in-Continue-clause .ensures tt) (c .arrange-draft .ensures .outcome) in
+    let r : Result ℕ JobFault = Err Ended in
+    let answer : r ≡ lemmaAnswer s ls = lemma-ended s ls x (m .is) (sym (c .if-is-ended .ensures tt)) in
+    record { lent = (refl, refl, refl, refl); answer = answer; after = refl; happens = lemma-happens s (sound j) ls r s answer refl }
 
 pub returns-then-is-full : need.returns-then-is-full
 returns-then-is-full c =

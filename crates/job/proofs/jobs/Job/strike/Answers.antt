@@ -7,15 +7,26 @@ use Rattle.std.specs.declared.result.Result.the-variants.{Ok, Err}
 use Rattle.cnf.specs.Arranging.{arranged}
 use Rattle.cnf.specs.Drafts.{outcome}
 use Rattle.job.specs.declared.faults.JobFault.{JobFault}
-use Rattle.job.specs.declared.faults.JobFault.the-variants.{NoneLive}
+use Rattle.job.specs.declared.faults.JobFault.the-variants.{Ended, NoneLive}
 use Rattle.job.specs.Seen.{view}
 use Rattle.job.specs.Calls.{copyIn, strikeAnswer, withStrike}
 use Rattle.job.proofs.Keeping.{sound}
 use Rattle.job.proofs.Standing.{copy-is-live}
-use Rattle.job.proofs.Answering.{makes, strike-none-live, strike-found}
+use Rattle.job.proofs.Answering.{makes, strike-ended, strike-none-live, strike-found}
 use Rattle.job.proofs.Strikes.{its-place, strike-bound, sound-strike}
 use Rattle.job.proofs.Happening.{strike-happens}
 use Rattle.job.proofs.jobs.Job.strike.Needs as need
+
+pub returns-then-is-ended : need.returns-then-is-ended
+returns-then-is-ended c =
+    let j = c .args .self .now in
+    let s = view j in
+    let ls = c .args .literals .now in
+    let x = c .in-Continue-clause .clause .now in
+    let m = makes (s .variables) ls x (outcome (c .arrange-draft .result)) (j .range .0) (c .in-Continue-clause .ensures tt) (c .arrange-draft .ensures .outcome) in
+    let r : Result ℕ JobFault = Err Ended in
+    let answer : r ≡ strikeAnswer s ls = strike-ended s ls x (m .is) (sym (c .if-is-ended .ensures tt)) in
+    record { lent = (refl, refl, refl, refl); answer = answer; after = refl; happens = strike-happens s (sound j) ls r s answer refl }
 
 pub returns-in-rest : need.returns-in-rest
 returns-in-rest c =
