@@ -1,0 +1,10 @@
+pub mod Histories
+pub mod Texts
+pub mod Keeping
+pub mod Entries
+pub mod Strikes
+pub mod Withdrawals
+pub mod Standing
+pub mod Happening
+pub mod Copies
+pub mod Answering
