@@ -1,0 +1,4 @@
+pub mod Consistent
+pub mod Keeping
+pub mod Looking
+pub mod Refusing
