@@ -7,16 +7,16 @@ use native.Mathlib.Omega.{arith}
 use lib.Dec.{eqb}
 use lib.ListN.{length, getD}
 use Rattle.cnf.specs.Clauses.{Clause, IsClause, literals}
-use Rattle.drup.specs.History.{Step, table, nextNumber, isStruck}
+use Rattle.drup.specs.History.{Step, table, text, nextNumber, isStruck}
 use Rattle.drup.specs.Laws.{StrikesLive}
 use Rattle.drup.specs.WellFormed.{WellFormed}
 use Rattle.job.specs.declared.rows.StepRow.{StepRow}
 use Rattle.job.specs.declared.rows.StepRow.the-variants.{Lemma, Strike}
 use Rattle.job.specs.View.{View, blankRow, blankStep, textIn, texts}
-use Rattle.job.specs.History.{inputsOf, before, stepsOf, machineOf}
+use Rattle.job.specs.History.{downFrom, inputsOf, before, stepsOf, machineOf}
 use Rattle.job.specs.Sound.{Sound, isNext}
 use Rattle.job.proofs.Histories.{next-lemma}
-use Rattle.job.proofs.Standing.{all-strikes, row-live, is-clause, all-literals, well-formed}
+use Rattle.job.proofs.Standing.{all-down-from, text-of, all-strikes, row-live, is-clause, all-literals, well-formed}
 use Rattle.job.proofs.Texts.{length-texts}
 
 -- a lemma at step k has the number that was next
@@ -28,9 +28,12 @@ pub record Fit (s : View) : Type 0 where
   pub range : s .variables ≤ 512
   pub rooms : (s .clauses ≤ length (s .rows)) × (s .taken ≤ length (s .steps)) × (s .clauses ≤ 4096) × (s .taken ≤ 8192)
   pub all-in : s .clauses ≡ length (table (inputsOf s) (stepsOf s))
+  pub all-down : table (inputsOf s) (stepsOf s) ≡ downFrom (textIn (texts s)) (s .clauses)
+  pub same-text : (n : ℕ) → 1 ≤ n → n ≤ s .clauses → text (table (inputsOf s) (stepsOf s)) n ≡ textIn (texts s) n
   pub stored : literals (table (inputsOf s) (stepsOf s)) ≡ s .used
   pub all-texts : length (texts s) ≡ s .clauses
   pub clause : (k : ℕ) → 1 ≤ k → k ≤ s .clauses → IsClause (s .variables) (textIn (texts s) k)
+  pub few-inputs : s .inputs ≤ s .clauses
   pub named : (k : ℕ) → k < s .taken → NamedIn (inputsOf s) (before s k) (getD (s .steps) k blankStep)
   pub alive : (k : ℕ) → k < s .clauses → eqb (getD (s .rows) k blankRow .struck) 0 ≡ not (isStruck (suc k) (stepsOf s))
   pub strikes : StrikesLive (inputsOf s) (stepsOf s)
@@ -46,9 +49,12 @@ fit s o = record {
     (let a = o .range .1 in let b = o .counts .2 in omega arith),
   );
   all-in = o .complete;
+  all-down = all-down-from s o;
+  same-text = text-of s o;
   stored = all-literals s o;
   all-texts = length-texts (s .rows) (s .lits) (s .clauses) (let a = o .rooms .0 in let b = o .counts .1 in omega arith);
   clause = its-clause;
+  few-inputs = o .counts .0;
   named = λ k h. its-name k (getD (s .steps) k blankStep) refl (o .numbered k h);
   alive = row-live s o;
   strikes = all-strikes s o;

@@ -170,3 +170,11 @@ framed-begun s h = record {
       ∙ beyond-unmarked (s .clauses) (s .rows);
   same-places = length-replicate (length (s .arcs)) 0;
 }
+
+pub framed-wiped : (s : View) → Framed s (wiped s)
+framed-wiped s = record {
+  but-for = refl;
+  same-rows = bare-unmarked (s .clauses) (s .rows);
+  same-beyond = beyond-unmarked (s .clauses) (s .rows);
+  same-places = length-replicate (length (s .arcs)) 0;
+}

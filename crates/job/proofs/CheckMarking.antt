@@ -63,3 +63,8 @@ all-marked c (n ∷ row) rows h in-range =
     regroup true false d = refl
     regroup false true d = refl
     regroup false false d = refl
+
+-- the mark at a place
+pub mark-there : (c : ℕ) (rows : List ClauseRow) (i : ℕ) → i < c → marksOf (marksIn c rows) (suc i) ≡ getD rows i blankRow .kept
+mark-there c rows i h =
+    mark-at c rows (suc i) (omega arith) (omega arith) ∙ ap (λ (j : ℕ). getD rows j blankRow .kept) (let e : suc i - 1 ≡ i = omega arith in e)

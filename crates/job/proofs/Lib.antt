@@ -15,3 +15,9 @@ pub mod CheckMarking
 pub mod CheckArcs
 pub mod CheckShown
 pub mod CheckStepping
+pub mod CheckSurround
+pub mod CheckJudgement
+pub mod CheckOnward
+pub mod CheckRules
+pub mod CheckOutcomes
+pub mod CheckWhole
