@@ -60,7 +60,7 @@ module _ (s : View) (o : Fit s) where
     fits : (row : Row) → row ∈ j .rows → Fits s row
     unfolding v
     fits row x =
-        let (c, earlier, learned, derives) = worth .rows-right row x in
+        let (c, earlier, place, derives) = worth .rows-right row x in
         let a = derives .its-number in
         let b = inputs-stay (inputsOf s) earlier in
         let d = length-down (textIn (texts s)) (s .inputs) in
@@ -71,9 +71,9 @@ module _ (s : View) (o : Fit s) where
     only : (row : Row) → row ∈ j .rows → (r : Row) → r ∈ j .rows → r .lemma-number ≡ row .lemma-number → r ≡ row
     unfolding v
     only row x r y p =
-        let (c, earlier, learned, derives) = worth .rows-right row x in
+        let (c, earlier, place, derives) = worth .rows-right row x in
         let kept = worth .rows-kept row x in
-        let one = worth .every-row c earlier learned (ap (marksOf (marks s′)) (sym (derives .its-number)) ∙ kept) in
+        let one = worth .every-row c earlier place (ap (marksOf (marks s′)) (sym (derives .its-number)) ∙ kept) in
         let its = derives .its-number ∙ sym (one .derives .its-number) in
         one .the-only r y (p ∙ its) ∙ sym (one .the-only row x its)
 
@@ -82,7 +82,7 @@ module _ (s : View) (o : Fit s) where
     verdict-read =
         read-back (machineOf s) (verdictIn s′ (j .rows)) (report (inputsOf s) (verdictIn s′ (j .rows)) (j .count)) (marks s′) (s′ .arcs) (j .checks) refl
         (λ row x.
-            let (c, earlier, learned, derives) = worth .rows-right row x in
+            let (c, earlier, place, derives) = worth .rows-right row x in
             ap (λ (a : List ℕ). numbersAt a ((row .lemma-number - suc (length (inputsOf s))) * suc (s .variables)) (suc (s .variables))) (j .arc-list)
             ∙ ap (λ (k : ℕ). numbersAt (arcsOf s (j .rows)) ((row .lemma-number - suc k) * suc (s .variables)) (suc (s .variables))) (length-down (textIn (texts s)) (s .inputs))
             ∙ row-read s (j .rows) row fits (only row x) x (λ k y. derives .live k y .numbered))
