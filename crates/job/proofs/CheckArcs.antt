@@ -63,7 +63,6 @@ module _ (s : View) where
       length-paste (arcsOf s rows) (rowStart s (row .lemma-number)) (row .antecedents) (length (row .antecedents)) (omega arith) (omega arith) ∙ ih
 
   module _ (row : Row) (rows : List Row) (f : (r : Row) → r ∈ (row ∷ rows) → Fits s r) where
-
     fits-there : rowStart s (row .lemma-number) + length (row .antecedents) ≤ length (arcsOf s rows)
     fits-there =
         let h = f row (here refl) in

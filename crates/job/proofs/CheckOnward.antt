@@ -254,20 +254,19 @@ module _ (s₀ : View) (o : Fit s₀) (rooms : Roomy s₀) (i : ℕ) (h : i < s�
             })
 
     on-failed : (s′ : View) (m′ : Meaning) → getD (s .rows) (n - 1) blankRow .kept ≡ true → Failed s off n s′ m′ → Framed s₀ s′ × TurnsDown s₀ (suc i) m′
-    on-failed s′ m′ f p =
-        (
-          subst (Framed s₀) (sym (p .lists)) (g .framed),
-          record {
-            count = g .count + asked (p .answers);
-            checks = subst (λ (k : ℕ). Checks (machineOf s₀) (fails (suc k) (g .count + asked (p .answers)))) (length-steps (textIn (texts s₀)) (s₀ .steps) i)
-                (at-nothing (machineOf s₀) (verdictIn s (g .rows)) (g .count) (textIn (texts s₀) n) (before s₀ i) stands (its-mark true f) (p .answers)
-                (shown-nothing off (inputsOf s₀) (before s₀ i) shows (map complement (textIn (texts s₀) n)) (p .answers)
-                (subst (λ (ls : List Literal). NothingOver (On off) (textOf off) ls (p .answers)) same-lemma (p .nothing))));
-            counted = more-counted m′ (asked (p .answers)) (p .engine);
-            holds = holds-after off m′ s₀ (asked (p .answers)) (p .engine) holds;
-            level = shows-after off m′ (inputsOf s₀) (before s₀ i) (asked (p .answers)) (p .engine) shows .level;
-          },
-        )
+    on-failed s′ m′ f p = (
+      subst (Framed s₀) (sym (p .lists)) (g .framed),
+      record {
+        count = g .count + asked (p .answers);
+        checks = subst (λ (k : ℕ). Checks (machineOf s₀) (fails (suc k) (g .count + asked (p .answers)))) (length-steps (textIn (texts s₀)) (s₀ .steps) i)
+            (at-nothing (machineOf s₀) (verdictIn s (g .rows)) (g .count) (textIn (texts s₀) n) (before s₀ i) stands (its-mark true f) (p .answers)
+            (shown-nothing off (inputsOf s₀) (before s₀ i) shows (map complement (textIn (texts s₀) n)) (p .answers)
+            (subst (λ (ls : List Literal). NothingOver (On off) (textOf off) ls (p .answers)) same-lemma (p .nothing))));
+        counted = more-counted m′ (asked (p .answers)) (p .engine);
+        holds = holds-after off m′ s₀ (asked (p .answers)) (p .engine) holds;
+        level = shows-after off m′ (inputsOf s₀) (before s₀ i) (asked (p .answers)) (p .engine) shows .level;
+      },
+    )
 
   here-too : getD (s .steps) i blankStep ≡ getD (s₀ .steps) i blankStep
   here-too = ap (λ (steps : List StepRow). getD steps i blankStep) (steps-framed s₀ s (g .framed))

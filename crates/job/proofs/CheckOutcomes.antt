@@ -82,10 +82,10 @@ module _ (s : View) (o : Fit s) where
     verdict-read =
         read-back (machineOf s) (verdictIn s′ (j .rows)) (report (inputsOf s) (verdictIn s′ (j .rows)) (j .count)) (marks s′) (s′ .arcs) (j .checks) refl
         (λ row x.
-            let (c, earlier, place, derives) = worth .rows-right row x in
-            ap (λ (a : List ℕ). numbersAt a ((row .lemma-number - suc (length (inputsOf s))) * suc (s .variables)) (suc (s .variables))) (j .arc-list)
-            ∙ ap (λ (k : ℕ). numbersAt (arcsOf s (j .rows)) ((row .lemma-number - suc k) * suc (s .variables)) (suc (s .variables))) (length-down (textIn (texts s)) (s .inputs))
-            ∙ row-read s (j .rows) row fits (only row x) x (λ k y. derives .live k y .numbered))
+        let (c, earlier, place, derives) = worth .rows-right row x in
+        ap (λ (a : List ℕ). numbersAt a ((row .lemma-number - suc (length (inputsOf s))) * suc (s .variables)) (suc (s .variables))) (j .arc-list)
+        ∙ ap (λ (k : ℕ). numbersAt (arcsOf s (j .rows)) ((row .lemma-number - suc k) * suc (s .variables)) (suc (s .variables))) (length-down (textIn (texts s)) (s .inputs))
+        ∙ row-read s (j .rows) row fits (only row x) x (λ k y. derives .live k y .numbered))
 
     pub count-told : m′ .answers ≡ j .count
     count-told = j .counted ∙ few-counted (j .count) (reported (machineOf s) (verdictIn s′ (j .rows)) (report (inputsOf s) (verdictIn s′ (j .rows)) (j .count)) (o .formed) (j .checks) .answers-few)

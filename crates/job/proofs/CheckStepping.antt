@@ -115,7 +115,7 @@ module _ (s : View) (o : Fit s) (i : ℕ) (h : i < s .taken) where
     holds-on = record {
       shut = holds .shut;
       same = holds .same;
-        idle = holds .idle;
+      idle = holds .idle;
       numbered = λ k on.
           let l = shows-on .on-live k on in
           let a = l .entered in

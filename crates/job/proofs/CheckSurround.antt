@@ -261,4 +261,3 @@ module _ (s : View) (o : Fit s) where
 
     pub lit-uncounted : m .answers ≡ 0
     lit-uncounted = ap (λ (x : Meaning). x .answers) (g .but-for)
-

@@ -21,3 +21,4 @@ pub mod CheckOnward
 pub mod CheckRules
 pub mod CheckOutcomes
 pub mod CheckWhole
+pub mod Replayed

@@ -12,3 +12,4 @@ pub mod CheckFrame
 pub mod CheckJudging
 pub mod CheckWalking
 pub mod Checking
+pub mod Replaying

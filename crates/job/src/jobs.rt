@@ -15,6 +15,8 @@ pub mod judging;
 pub mod looking;
 pub mod marking;
 pub mod opening;
+pub mod orders;
+pub mod replaying;
 pub mod reports;
 pub mod striking;
 pub mod texts;

@@ -51,7 +51,13 @@ impl Job<'_> {
     }
 
     /// Records the row of a conflict, and gives its length; its clauses are marked and preferred.
-    fn record_row<E: Engine>(&mut self, engine: &mut E, n: u16, conflict: u16, answers: &Answers) -> usize
+    fn record_row<E: Engine>(
+        &mut self,
+        engine: &mut E,
+        n: u16,
+        conflict: u16,
+        answers: &Answers,
+    ) -> usize
         requires sound { ⌜ E·Engine .sound (now engine) ⌝ }
         requires holds { ⌜ Holds (E·Engine .meaning (now engine)) (view (now self)) ⌝ }
         requires room { ⌜ Room (view (now self)) n ⌝ }

@@ -8,6 +8,7 @@ use trial::texts::Texts;
 /// A job's clauses, looked up by their numbers.
 pub impl<'a> Texts for Job<'a> as JobTexts {
     ghost clauses = { λ j. texts (view j) };
+
     ghost sound = { λ _. Unit {0} };
 
     fn clause(&self, number: u16) -> &[Literal] {

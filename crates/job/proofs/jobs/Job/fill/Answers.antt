@@ -25,8 +25,7 @@ pub loop-i-again : need.loop-i-again
 loop-i-again g c =
     let j = c .args .self .now in
     let s = view j in
-    let large = subst (Large s) (sym (c .clear-engine .ensures .does)) (c .pre .large) in
-    (
+    let large = subst (Large s) (sym (c .clear-engine .ensures .does)) (c .pre .large) in (
       put-more s (fit s (sound j)) (g .E·Engine .meaning (c .clear-engine .last .engine)) large (c .loop-i .i) (c .loop-i-test .taken) (g .E·Engine .meaning (c .loop-i .engine)) (c .text .result .now) (c .loop-i .inv .0) (c .text .ensures) (g .E·Engine .meaning (c .put-text .last .engine)) (c .put-text .ensures .does),
       c .put-text .ensures .stays,
     )

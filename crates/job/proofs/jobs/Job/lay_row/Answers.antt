@@ -16,9 +16,8 @@ pub loop-j-again : need.loop-j-again
 loop-j-again c =
     let s = view (c .args .self .now) in
     let row = c .args .row .now in
-    let j = c .loop-j .j in
-    (
+    let j = c .loop-j .j in (
       c .loop-j .inv .0,
       ap (λ (t : View). withArcs (set (t .arcs) (c .args .at + j) (getD row j 0)) t) (c .loop-j .inv .1)
-      ∙ ap (λ a. withArcs a s) (paste-more (s .arcs) (c .args .at) row j 0 (omega arith) (omega arith)),
+          ∙ ap (λ a. withArcs a s) (paste-more (s .arcs) (c .args .at) row j 0 (omega arith) (omega arith)),
     )

@@ -111,8 +111,8 @@ returns g c =
       lent = (l₂ .0 ∙ l₁ .0, l₂ .1 ∙ l₁ .1, l₂ .2 ∙ l₁ .2, l₂ .3 ∙ l₁ .3);
       comes = (
         accepts s s₁ f₁ o₁ m₂ m₃ q s₂ (c .walk-step .last .tally) _ (ended-first s o m a s₁ o₁ e) (rooms-first s o m a s₁ o₁ e) (c .walk-step .ensures .framed)
-        (subst (λ (r : ℕ). Walked s₁ r s₂ m₂ (c .walk-step .last .tally)) (c .if-step-ne0 .left) (c .walk-step .ensures .walked))
-        (c .kept-inputs .ensures) refl refl (c .answers .ensures),
+            (subst (λ (r : ℕ). Walked s₁ r s₂ m₂ (c .walk-step .last .tally)) (c .if-step-ne0 .left) (c .walk-step .ensures .walked))
+            (c .kept-inputs .ensures) refl refl (c .answers .ensures),
         c .answers .ensures,
       );
       idle = idle-after s s₁ m₂ m₃ f₁ (h .0) (s₂ .clauses) (clauses-framed s s₂ f₂) (c .darken .ensures .does);

@@ -19,11 +19,10 @@ loop-i-again c =
     let s = view (c .args .self .now) in
     let i = c .loop-i .i in
     let h : i < length (s .rows) = omega arith in
-    let k : i < length (unmarked i (s .rows)) = (let e = unmarked-length i (s .rows) in omega arith) in
-    (
+    let k : i < length (unmarked i (s .rows)) = (let e = unmarked-length i (s .rows) in omega arith) in (
       c .loop-i .inv .0,
       ap (λ (t : View). withRows (set (t .rows) i (bare (getD (t .rows) i blankRow))) t) (c .loop-i .inv .1)
-      ∙ ap (λ r. withRows r s) (map-over-more bare (s .rows) (unmarked i (s .rows)) i (getD (unmarked i (s .rows)) i blankRow) h refl (getD-default (unmarked i (s .rows)) i blankRow (getD (unmarked i (s .rows)) i blankRow) k)),
+          ∙ ap (λ r. withRows r s) (map-over-more bare (s .rows) (unmarked i (s .rows)) i (getD (unmarked i (s .rows)) i blankRow) h refl (getD-default (unmarked i (s .rows)) i blankRow (getD (unmarked i (s .rows)) i blankRow) k)),
     )
 
 pub ghost-self : need.ghost-self

@@ -43,11 +43,10 @@ loop-i-again g c =
     let k = c .loop-i .i - 1 in
     let e : c .loop-i .i ≡ suc k = omega arith in
     let b = c .back .ensures .lent in
-    let a = c .loop-i .inv .0 in
-    (
+    let a = c .loop-i .inv .0 in (
       (b .0 ∙ a .0, b .1 ∙ a .1, b .2 ∙ a .2, b .3 ∙ a .3),
       going-on s₀ o (c .pre .ready .rooms) k (omega arith) s m (c .loop-i .tally) (going-next s₀ o (c .loop-i .i) k e s m (c .loop-i .tally) (c .loop-i .inv .1))
-      (view (c .back .last .self)) (g .E·Engine .meaning (c .back .last .engine)) (c .back .last .tally) (c .if-not-back .ensures tt .goes),
+          (view (c .back .last .self)) (g .E·Engine .meaning (c .back .last .engine)) (c .back .last .tally) (c .if-not-back .ensures tt .goes),
       c .back .ensures .stays,
     )
 

@@ -12,8 +12,7 @@ use Rattle.job.proofs.jobs.Job.wipe.Needs as need
 pub loop-i-again : need.loop-i-again
 loop-i-again c =
     let s = view (c .args .self .now) in
-    let i = c .loop-i .i in
-    (
+    let i = c .loop-i .i in (
       c .loop-i .inv .0,
       ap (λ (t : View). withArcs (set (t .arcs) i 0) t) (c .loop-i .inv .1) ∙ ap (λ a. withArcs a s) (fill-more i 0 (s .arcs) (omega arith)),
     )
