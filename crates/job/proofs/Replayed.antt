@@ -21,7 +21,6 @@ use Rattle.drup.proofs.Agreeing.{agreement}
 use Rattle.engine.specs.Meaning.{Meaning}
 use Rattle.job.specs.declared.faults.JobFault.{JobFault}
 use Rattle.job.specs.declared.jobs.orders.Order.{Order}
-use Rattle.job.specs.declared.jobs.orders.Order.the-variants.{Check, Withdraw}
 use Rattle.job.specs.declared.jobs.reports.Report.{Report}
 use Rattle.job.specs.Faults.{numberOf, placeOf}
 use Rattle.job.specs.Calls.{refusal}
@@ -29,7 +28,7 @@ use Rattle.drup.specs.Reading.{verdictAt}
 use Rattle.job.specs.View.{View, marks}
 use Rattle.job.specs.History.{boxIn, machineOf}
 use Rattle.job.specs.Checking.{eventOf}
-use Rattle.job.specs.Replaying.{partOf, IsCheck, IsOrdered, numberIn, Came, AllOrdered, Played, AgreesThroughout, newMachine}
+use Rattle.job.specs.Replaying.{blankOrder, partOf, IsCheck, IsOrdered, numberIn, Came, AllOrdered, Played, AgreesThroughout, newMachine}
 
 -- the parts of a list
 pub part-none : (told : List Literal) (start len : ℕ) → length told ≤ start → partOf told start len ≡ []
@@ -58,6 +57,12 @@ module _ (lent : Lent) (s′ : View) (m′ : Meaning) where
       go true e = eqb-true (numberOf fault) 14 e
       go false e = refl
 
+-- what came of an order that is known
+pub came : (s s′ : View) (told : List Literal) (order known : Order) (r : ℕ) (event : Event) → order ≡ known → IsOrdered told known event
+    → Happens (boxIn s) event (boxIn s′) → r ≡ numberIn event → Came s told order r s′
+came s s′ told order known r event e of h n =
+    record { event = event; ordered = subst (λ (o : Order). IsOrdered told o event) (sym e) of; happened = h; number = n }
+
 -- before the first order
 pub played-none : (told : List Literal) (orders : List Order) (s : View) → machineOf s ≡ newMachine s → s .judged ≡ false → Played (newMachine s) told orders 0 0 s
 played-none told orders s e f = record {
@@ -70,11 +75,11 @@ played-none told orders s e f = record {
 
 -- one order more
 pub played-more : (new : Machine) (told : List Literal) (orders : List Order) (i r r′ : ℕ) (s s′ : View) → Played new told orders i r s
-    → Came s told (getD orders i Withdraw) r′ s′ → Played new told orders (i + 1) r′ s′
+    → Came s told (getD orders i blankOrder) r′ s′ → Played new told orders (i + 1) r′ s′
 played-more new told orders i r r′ s s′ p c = record {
   events = c .event ∷ p .events;
   all = (let a = p .all in omega arith);
-  ordered = (subst (λ (k : ℕ). IsOrdered told (getD orders k Withdraw) (c .event)) (sym (p .all)) (c .ordered), p .ordered);
+  ordered = (subst (λ (k : ℕ). IsOrdered told (getD orders k blankOrder) (c .event)) (sym (p .all)) (c .ordered), p .ordered);
   run = (boxIn s, p .run, c .happened);
   number = c .number;
 }

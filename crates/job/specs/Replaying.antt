@@ -19,6 +19,10 @@ use Rattle.job.specs.History.{boxIn}
 abbrev pub partOf : List Literal → (start len : ℕ) → List Literal
 partOf told start len = take len (drop start told)
 
+-- what a read past the end of the orders would give
+abbrev pub blankOrder : Order
+blankOrder = Clause 0 0
+
 -- an event is this call
 abbrev pub IsCall : Call → Event → Type 0
 IsCall call (called c n) = c ≡ call
@@ -56,7 +60,7 @@ pub record Came (s : View) (told : List Literal) (order : Order) (r : ℕ) (s′
 -- events, newest first, are what was ordered, the first order first
 abbrev pub AllOrdered : (told : List Literal) → List Order → List Event → Type 0
 AllOrdered told orders [] = Unit {0}
-AllOrdered told orders (event ∷ earlier) = IsOrdered told (getD orders (length earlier) Withdraw) event × AllOrdered told orders earlier
+AllOrdered told orders (event ∷ earlier) = IsOrdered told (getD orders (length earlier) blankOrder) event × AllOrdered told orders earlier
 
 -- the number of the latest event
 abbrev pub latestNumber : List Event → ℕ
