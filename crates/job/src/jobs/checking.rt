@@ -68,9 +68,9 @@ impl Job<'_> {
         })
     }
 
-    /// Checks the proof backward with an engine, keeps what it needs, and reports. A check that is refused because no
-    /// step is the empty lemma, because the engine or the arc list is too small, or because a trial is open changes
-    /// nothing; one that fails at a lemma leaves no mark and no arc.
+    /// Checks the proof backward with an engine, keeps what the empty lemma needs, and reports. Where the last step is
+    /// not the empty lemma, the engine or the arc list is too small, or a trial is open, it changes nothing. Where a kept
+    /// lemma does not pass, it leaves no mark and no arc, and the job is not judged.
     pub(crate) fn check<E: Engine>(&mut self, engine: &mut E) -> Result<Report, JobFault>
         requires sound { ⌜ E·Engine .sound (now engine) ⌝ }
         ensures lent { λ _. ⌜ SameLent (now (self .entry)) (now (self .exit)) ⌝ }

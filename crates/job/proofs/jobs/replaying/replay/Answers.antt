@@ -14,8 +14,7 @@ use Rattle.job.proofs.jobs.replaying.replay.Needs as need
 pub loop-i-again : need.loop-i-again
 loop-i-again g c =
     let b = c .obey-last .ensures .lent in
-    let a = c .loop-i .inv .0 in
-    (
+    let a = c .loop-i .inv .0 in (
       (b .0 ∙ a .0, b .1 ∙ a .1, b .2 ∙ a .2, b .3 ∙ a .3),
       played-more (newMachine (view (c .open-job .result))) (c .args .told .now) (c .args .orders .now) (c .loop-i .i) (c .loop-i .last) (c .obey-last .result) (view (c .loop-i .job)) (view (c .obey-last .last .self)) (c .loop-i .inv .1) (c .obey-last .ensures .came),
       c .obey-last .ensures .stays,
