@@ -8,3 +8,17 @@ pub mod Standing
 pub mod Happening
 pub mod Copies
 pub mod Answering
+pub mod CheckFit
+pub mod CheckFraming
+pub mod CheckMarks
+pub mod CheckMarking
+pub mod CheckArcs
+pub mod CheckShown
+pub mod CheckStepping
+pub mod CheckSurround
+pub mod CheckJudgement
+pub mod CheckOnward
+pub mod CheckRules
+pub mod CheckOutcomes
+pub mod CheckWhole
+pub mod Replayed

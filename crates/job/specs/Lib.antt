@@ -6,3 +6,10 @@ pub mod Sound
 pub mod Seen
 pub mod Opening
 pub mod Calls
+pub mod CheckLists
+pub mod CheckShowing
+pub mod CheckFrame
+pub mod CheckJudging
+pub mod CheckWalking
+pub mod Checking
+pub mod Replaying

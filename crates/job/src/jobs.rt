@@ -8,10 +8,19 @@ use crate::rows::ClauseRow;
 use crate::rows::StepRow;
 use cnf::literals::Literal;
 
+pub mod checking;
 pub mod entering;
+pub mod filling;
+pub mod judging;
 pub mod looking;
+pub mod marking;
 pub mod opening;
+pub mod orders;
+pub mod replaying;
+pub mod reports;
 pub mod striking;
+pub mod texts;
+pub mod walking;
 
 /// A job over four lists that the caller lends: input clauses, and then steps.
 #[derive(Drop)]
