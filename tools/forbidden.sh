@@ -8,7 +8,7 @@ if grep -rnE '\bunsafe\b' crates/*/src; then
     echo "unsafe code"
     found=1
 fi
-if grep -rnE '(\.|::)(begin|finish)\(' crates/*/src | grep -vE '^crates/(engine|core_first)/'; then
+if grep -rnE '(\.|::)(begin|finish)\([^)]' crates/*/src | grep -vE '^crates/(engine|core_first)/'; then
     echo "begin or finish of an engine called outside crates engine and core_first"
     found=1
 fi
