@@ -1,5 +1,5 @@
 -- Unit propagation: what a clause does under a trail, and the derivation of a conflict.
-use Rattle.std.specs.Prelude.{◌≡◌, List, [], ◌∷◌, map, ◌≢◌}
+use Rattle.std.specs.Prelude.{List, [], ◌∷◌, map, ◌≢◌}
 use Rattle.cnf.specs.declared.literals.Literal.{Literal}
 use Rattle.cnf.specs.Literals.{complement}
 use Rattle.cnf.specs.Clauses.{Clause, ◌∈◌}

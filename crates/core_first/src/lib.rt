@@ -1,4 +1,6 @@
 //! An engine of two engines: the texts of the core are asked first.
+#![tactic(auto)]
+
 use engine::trails::Trail;
 
 mod asking;

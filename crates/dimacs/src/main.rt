@@ -1,4 +1,6 @@
 //! Reads a formula in DIMACS form from standard input and prints it in standard form, or the line of its refusal.
+#![tactic(auto)]
+
 use anyhow::anyhow;
 use std::io::Read;
 use text::standard::{PrintFault, print_standard};

@@ -1,5 +1,7 @@
 //! The meaning of a checked proof, and the theorems that the box stands on. There is no running code here but small
 //! functions whose contracts name the theorems; the definitions are in `specs/`, the proofs in `proofs/`.
+#![tactic(auto)]
+
 use cnf::literals::Literal;
 
 /// The answer that the clause with this number forces a literal.

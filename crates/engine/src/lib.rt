@@ -1,5 +1,7 @@
 //! The interface below the check: an engine holds numbered clauses, its texts, of which some are on, and finds
 //! conflicts among those that are on in trials.
+#![tactic(auto)]
+
 pub mod answers;
 pub mod calls;
 pub mod contract;

@@ -1,4 +1,6 @@
 //! Counted texts: a line with the number of a text's bytes, and then the text.
+#![tactic(auto)]
+
 ghost use Rattle.std.specs.Prelude.{◌≡◌, ◌≤◌, length, decimal, MatchOption};
 ghost use Rattle.std.specs.List.{prefix_len};
 ghost use Rattle.framing.specs.Counted.{in_line, NoCount, Uncounted, Counts};

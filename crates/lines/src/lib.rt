@@ -1,4 +1,6 @@
 //! Writers of numbers, literals, clauses, formulas and refusals as lines of bytes.
+#![tactic(auto)]
+
 pub mod faults;
 mod puts;
 mod room;

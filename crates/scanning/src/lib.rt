@@ -1,5 +1,7 @@
 //! An engine that scans all its texts for each answer. It answers the lowest falsified number, else the lowest
 //! forcing one.
+#![tactic(auto)]
+
 use crate::rows::TextRow;
 use cnf::literals::Literal;
 use engine::trails::Trail;

@@ -1,4 +1,6 @@
 //! Texts and their standard forms, by table; each expected form is worked out by hand.
+#![tactic(auto)]
+
 #[cfg(test)]
 mod bodies;
 #[cfg(test)]

@@ -7,4 +7,4 @@ pub returns-then-literal : goal.returns-then-literal
 returns-then-literal c =
     let digits = decimal c.args.literal.variable in
     let minus = cond-true c.args.literal.negated (45 ∷ digits) digits c.if-literal.true in
-    puts_as (sym minus) (puts_then (omega (arith, ap length minus)) c.put-byte-next.ensures c.put-number.ensures)
+    puts_as (sym minus) (puts_then (omega (arith, ap length minus)) c.put_byte-next.ensures c.put_number.ensures)

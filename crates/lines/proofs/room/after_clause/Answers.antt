@@ -25,4 +25,4 @@ pub returns : goal.returns
 returns c =
     let xs = c.args.clause.now in
     let all = ap (λ l. length (flat_map literal_word l)) (take_all c.loop-literal.literal-index xs c.loop-literal-test.false) in
-    leaves_then _ _ 2 _ _ _ c.loop-literal.invariant (omega (arith, length_clause xs)) c.checked-sub-2.ensures
+    leaves_then _ _ 2 _ _ _ c.loop-literal.invariant (omega (arith, length_clause xs)) c.checked_sub-2.ensures

@@ -10,9 +10,9 @@ returns-then-row c =
     let s = c.args.self.now in
     let n = c.args.number in
     let on = on_is s c.requires.sound n c.requires.number.0 c.requires.number.1 in
-    let text = c.text-at.ensures ∙ sym (text_is s c.requires.sound n c.requires.number.0 c.requires.number.1) in
+    let text = c.text_at.ensures ∙ sym (text_is s c.requires.sound n c.requires.number.0 c.requires.number.1) in
     let trail = c.entries.ensures in
-    c.forced-by.ensures ∙ (λ i. forced (values_of (trail i)) (text i)) ∙ sym (cond-true _ _ _ (on ∙ c.if-row.true))
+    c.forced_by.ensures ∙ (λ i. forced (values_of (trail i)) (text i)) ∙ sym (cond-true _ _ _ (on ∙ c.if-row.true))
 
 pub returns-else-row : goal.returns-else-row
 returns-else-row c =

@@ -11,9 +11,9 @@ returns-then-row c =
     let s = c.args.self.now in
     let n = c.args.number in
     let on = on_is s c.requires.sound n c.requires.number.0 c.requires.number.1 in
-    let text = c.text-at.ensures ∙ sym (text_is s c.requires.sound n c.requires.number.0 c.requires.number.1) in
+    let text = c.text_at.ensures ∙ sym (text_is s c.requires.sound n c.requires.number.0 c.requires.number.1) in
     let trail = c.entries.ensures in
-    c.is-falsified.ensures
+    c.is_falsified.ensures
     ∙ (λ i. falsified (values_of (trail i)) (text i))
     ∙ ap (λ (b : Bool). b && falsified (values (scan_meaning s)) (text_of (scan_meaning s) n)) (sym (on ∙ c.if-row.true))
 

@@ -10,16 +10,16 @@ use Rattle.scanning.proofs.Scanning.lowest_false.Goals as goal
 pub loop-i-init : goal.loop-i-init
 loop-i-init c = let m = scan_meaning c.args.self.now in none_first (is_on m) (λ k. Falsified (values m) (text_of m k)) refl
 
-pub returns-then-is-false-at : goal.returns-then-is-false-at
-returns-then-is-false-at c =
+pub returns-then-is_false_at : goal.returns-then-is_false_at
+returns-then-is_false_at c =
     let m = scan_meaning c.args.self.now in
-    (false_at m (c.loop-i.i + 1) (sym c.is-false-at.ensures ∙ c.if-is-false-at.true), λ k h. c.loop-i.invariant k (omega arith))
+    (false_at m (c.loop-i.i + 1) (sym c.is_false_at.ensures ∙ c.if-is_false_at.true), λ k h. c.loop-i.invariant k (omega arith))
 
 pub loop-i-preserved : goal.loop-i-preserved
 loop-i-preserved c =
     let m = scan_meaning c.args.self.now in
     none_more (FalseAt m) c.loop-i.i c.loop-i.invariant
-    (λ f. both_ways c.is-false-at.result c.if-is-false-at.false (c.is-false-at.ensures ∙ false_there m (c.loop-i.i + 1) f))
+    (λ f. both_ways c.is_false_at.result c.if-is_false_at.false (c.is_false_at.ensures ∙ false_there m (c.loop-i.i + 1) f))
 
 pub returns : goal.returns
 returns c k f = let h = on_low c.args.self.now c.requires k f.0 in c.loop-i.invariant k (omega (arith, c.loop-i-test.false)) f

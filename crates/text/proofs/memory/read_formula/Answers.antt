@@ -47,10 +47,10 @@ loop-clauses-preserved c =
     let d = clause_in (outcome now.draft) in
     let on = reads (extent_of now) (state_of now) (words_left now) in
     let e = ap (λ k. moves (state_of now) (item_of k now)) (sym c.in-Clause.is) ∙ told.takes.answer in
-    let copy = c.in-ok-from-slice.ensures.items ∙ c.clause.ensures in
+    let copy = c.in-ok-from_slice.ensures.items ∙ c.clause.ensures in
     let more =
     ap (map vec_items) c.in-ok-push.ensures.items
-    ∙ map_push vec_items all c.in-ok-from-slice.field-0
+    ∙ map_push vec_items all c.in-ok-from_slice.field-0
     ∙ ap (λ x. cs ++ x ∷ []) copy in
     ap (λ l. with_clauses l on) more
     ∙ sym (with_more cs d on)

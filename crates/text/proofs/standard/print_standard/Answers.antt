@@ -10,7 +10,7 @@ returns-in-ok-end c =
     let text = c.args.text.now in
     let f = formula_in c.in-Ok.formula in
     let n = c.in-ok-end.end in
-    let after = c.write-formula.new.out in
+    let after = c.write_formula.new.out in
     let told = c.in-ok-end.ensures in
     let read = c.in-Ok.ensures in
     record {

@@ -11,10 +11,10 @@ pub returns : goal.returns
 returns c =
     let f = formula_in c.args.formula.now in
     let out = c.args.out.now in
-    let r = c.write-formula.result in
-    let after = c.write-formula.new.out in
+    let r = c.write_formula.result in
+    let after = c.write_formula.new.out in
     let writes : Writes out 0 (text_of f) r after =
-    subst (λ l. Writes out 0 (formula_text f.highest (map vec_items l)) r after) c.deref.ensures.value c.write-formula.ensures in
+    subst (λ l. Writes out 0 (formula_text f.highest (map vec_items l)) r after) c.deref.ensures.value c.write_formula.ensures in
     let fits : length f.all < 2 ^ 64 =
     omega (arith, length-map (vec_items c.args.formula.now.clauses) vec_items, c.deref.ensures.len, c.deref.type-inv.0) in
     record { writes = writes; back = written_back f out r after fits writes }

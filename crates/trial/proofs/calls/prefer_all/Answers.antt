@@ -4,8 +4,8 @@ use Rattle.trial.proofs.Members.{get_d_in}
 use Rattle.trial.proofs.Allowed.{on_allowed}
 use Rattle.trial.proofs.calls.prefer_all.Goals as goal
 
-pub prefer-text-requires : goal.prefer-text-requires
-prefer-text-requires g c =
+pub prefer_text-requires : goal.prefer_text-requires
+prefer_text-requires g c =
     let numbers = c.args.numbers.now in
     let n = get_or numbers c.loop-number.number-index 0 in
     record {

@@ -5,12 +5,12 @@ use Rattle.words.proofs.lexis.run.Goals as goal
 
 pub loop-i-preserved : goal.loop-i-preserved
 loop-i-preserved c =
-    let e = prefix_len-drop_yes inner c.args.text.now c.loop-i.i 0 c.loop-i-test.true (ap not (sym c.if-not-is-blank.ensures)) in
+    let e = prefix_len-drop_yes inner c.args.text.now c.loop-i.i 0 c.loop-i-test.true (ap not (sym c.if-not-is_blank.ensures)) in
     (omega arith, omega arith)
 
-pub returns-else-not-is-blank : goal.returns-else-not-is-blank
-returns-else-not-is-blank c =
-    let e = prefix_len-drop_no inner c.args.text.now c.loop-i.i 0 c.loop-i-test.true (ap not (sym c.if-not-is-blank.ensures)) in
+pub returns-else-not-is_blank : goal.returns-else-not-is_blank
+returns-else-not-is_blank c =
+    let e = prefix_len-drop_no inner c.args.text.now c.loop-i.i 0 c.loop-i-test.true (ap not (sym c.if-not-is_blank.ensures)) in
     record { place = omega arith; within = omega arith }
 
 pub returns-after-loop-i : goal.returns-after-loop-i

@@ -9,7 +9,7 @@ loop-digit-preserved c =
     let ds = c.args.digits.now in
     let i = c.loop-digit.digit-index in
     let top : ℕ = 18446744073709551615 in
-    let same : c.saturating-add-n.result ≡ min (min (c.loop-digit.n * 10) top + (get_or ds i 0 - 48)) top = cc in
+    let same : c.saturating_add-n.result ≡ min (min (c.loop-digit.n * 10) top + (get_or ds i 0 - 48)) top = cc in
     (omega arith, ap (λ n. min (reads_on n (drop (i + 1) ds)) top) same ∙ held_more top c.loop-digit.n ds i c.loop-digit-test.true ∙ c.loop-digit.invariant.1)
 
 pub returns : goal.returns

@@ -13,18 +13,18 @@ pub push-requires : goal.push-requires
 push-requires g c =
     let m = core_meaning g.P.Engine.meaning g.R.Engine.meaning c.args.self.now in
     let l = c.args.literal in
-    let new : names l.variable (values m) ≡ false = ap (λ (t : List Entry). names l.variable (values_of t)) (sym c.entries.ensures) ∙ sym c.if-has-value.ensures in
+    let new : names l.variable (values m) ≡ false = ap (λ (t : List Entry). names l.variable (values_of t)) (sym c.entries.ensures) ∙ sym c.if-has_value.ensures in
     record {
       tidy = c.requires.whole.tidy;
-      room = trail_room m.trail l c.requires.whole.well.consistent (within_inside l (omega (arith, c.if-literal-eq0.false)) c.if-literal-gt-MOST-VARIABLES.false) new;
+      room = trail_room m.trail l c.requires.whole.well.consistent (within_inside l (omega (arith, c.if-literal-eq0.false)) c.if-literal-gt-MOST_VARIABLES.false) new;
     }
 
 pub returns : goal.returns
 returns g c =
     let m = core_meaning g.P.Engine.meaning g.R.Engine.meaning c.args.self.now in
     let l = c.args.literal in
-    let new : names l.variable (values m) ≡ false = ap (λ (t : List Entry). names l.variable (values_of t)) (sym c.entries.ensures) ∙ sym c.if-has-value.ensures in
-    let inside = within_inside l (omega (arith, c.if-literal-eq0.false)) c.if-literal-gt-MOST-VARIABLES.false in
+    let new : names l.variable (values m) ≡ false = ap (λ (t : List Entry). names l.variable (values_of t)) (sym c.entries.ensures) ∙ sym c.if-has_value.ensures in
+    let inside = within_inside l (omega (arith, c.if-literal-eq0.false)) c.if-literal-gt-MOST_VARIABLES.false in
     let free = assume_done m l c.if-not-self.false inside new in
     let whole = c.requires.whole in
     let z = c.assume.new.self in

@@ -9,13 +9,13 @@ use Rattle.engine.proofs.Keeping.{puts_well, literals_push}
 use Rattle.core_first.proofs.CoreWhole.{held_texts_lem, held_marks_lem, whole_at}
 use Rattle.core_first.proofs.serving.CoreFirstEngine.put.Goals as goal
 
-pub returns-then-not-has-room : goal.returns-then-not-has-room
-returns-then-not-has-room g c =
+pub returns-then-not-has_room : goal.returns-then-not-has_room
+returns-then-not-has_room g c =
     let m = core_meaning g.P.Engine.meaning g.R.Engine.meaning c.args.self.now in
     let ls = c.args.literals.now in
     let text = c.in-ok-text.text.now in
     let clause : arrangement highest ls ≡ Ok text = sym c.arrange-draft.ensures.outcome ∙ sym c.in-ok-text.ensures in
-    record { does = (put_full m ls text c.if-self.false clause (sym c.if-not-has-room.ensures), refl); stays = c.requires }
+    record { does = (put_full m ls text c.if-self.false clause (sym c.if-not-has_room.ensures), refl); stays = c.requires }
 
 pub returns : goal.returns
 returns g c =
@@ -23,7 +23,7 @@ returns g c =
     let ls = c.args.literals.now in
     let text = c.in-ok-text.text.now in
     let clause : arrangement highest ls ≡ Ok text = sym c.arrange-draft.ensures.outcome ∙ sym c.in-ok-text.ensures in
-    let free = put_done m ls text c.if-self.false clause (sym c.if-not-has-room.ensures) in
+    let free = put_done m ls text c.if-self.false clause (sym c.if-not-has_room.ensures) in
     let whole = c.requires.whole in
     let z = c.put.new.self in
     let p = g.P.Engine.meaning z.preferred in

@@ -10,8 +10,8 @@ use Rattle.job.proofs.CheckShown.{on_allowed, off_allowed}
 use Rattle.job.proofs.CheckStepping.{as_strike, struck_live, as_lemma, its_number, its_range, strikes_there, holds_off}
 use Rattle.job.proofs.jobs.Job.back.Goals as goal
 
-pub turn-on-requires : goal.turn-on-requires
-turn-on-requires g c =
+pub turn_on-requires : goal.turn_on-requires
+turn_on-requires g c =
     let j = c.args.self.now in
     let s = view j in
     let m = g.E.Engine.meaning c.args.engine.now in
@@ -23,8 +23,8 @@ turn-on-requires g c =
           (subst (Shows m (inputs_of s)) (as_strike s o i c.requires.step c.in-Strike.n c.in-Strike.is) c.requires.shows) (struck_live s o i c.requires.step c.in-Strike.n c.in-Strike.is);
     }
 
-pub turn-off-requires : goal.turn-off-requires
-turn-off-requires g c =
+pub turn_off-requires : goal.turn_off-requires
+turn_off-requires g c =
     let j = c.args.self.now in
     let s = view j in
     let m = g.E.Engine.meaning c.args.engine.now in
@@ -55,8 +55,8 @@ judge-requires g c =
     let n = c.in-Lemma.n in
     let r = its_range s o i c.requires.step n c.in-Lemma.is in
     record {
-      sound = c.turn-off.ensures.stays;
-      holds = subst (λ (x : Meaning). Holds x s) (sym c.turn-off.ensures.does) (holds_off s o i c.requires.step n c.in-Lemma.is m c.requires.holds c.requires.shows);
+      sound = c.turn_off.ensures.stays;
+      holds = subst (λ (x : Meaning). Holds x s) (sym c.turn_off.ensures.does) (holds_off s o i c.requires.step n c.in-Lemma.is m c.requires.holds c.requires.shows);
       room = (r.0, r.1, c.requires.rooms n r.0 r.1);
       raisable = c.requires.raisable;
     }

@@ -21,7 +21,7 @@ run-requires g c =
     let j = c.args.self.now in
     record {
       sound = c.requires.sound;
-      allowed = allowed (view j) (fit (view j) (sound j)) (g.E.Engine.meaning c.args.engine.now) (sym c.if-not-is-ended.ensures) (sym c.if-is-short.ensures) (sym c.if-is-open.ensures);
+      allowed = allowed (view j) (fit (view j) (sound j)) (g.E.Engine.meaning c.args.engine.now) (sym c.if-not-is_ended.ensures) (sym c.if-is_short.ensures) (sym c.if-is_open.ensures);
     }
 
 pub returns-in-Ok : goal.returns-in-Ok
@@ -30,7 +30,7 @@ returns-in-Ok g c =
     let s = view j in
     let s₂ = view c.run.new.self in
     let m = g.E.Engine.meaning c.args.engine.now in
-    let r = none_refused s (fit s (sound j)) m (sym c.if-not-is-ended.ensures) (sym c.if-is-short.ensures) (sym c.if-is-open.ensures) in
+    let r = none_refused s (fit s (sound j)) m (sym c.if-not-is_ended.ensures) (sym c.if-is_short.ensures) (sym c.if-is_open.ensures) in
     let come = c.in-Ok.ensures.comes in
     let same = machine_framed s s₂ come.0.framed in
     let v = verdict_at (machine_of s) (marks s₂) s₂.arcs in
@@ -54,7 +54,7 @@ returns-in-Err g c =
     let s₂ = view c.run.new.self in
     let m = g.E.Engine.meaning c.args.engine.now in
     let m₂ = g.E.Engine.meaning c.run.new.engine in
-    let r = none_refused s (fit s (sound j)) m (sym c.if-not-is-ended.ensures) (sym c.if-is-short.ensures) (sym c.if-is-open.ensures) in
+    let r = none_refused s (fit s (sound j)) m (sym c.if-not-is_ended.ensures) (sym c.if-is_short.ensures) (sym c.if-is_open.ensures) in
     let come = c.in-Err.ensures.comes in
     let same = machine_framed s s₂ (subst (λ (x : View). Framed s x) (sym come.0) (framed_wiped s)) in
     record {

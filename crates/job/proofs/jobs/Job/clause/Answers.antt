@@ -24,25 +24,25 @@ returns-then-self-gt0 c =
     let answer : r ≡ clause_answer s ls = clause_begun s ls x m.is (omega arith) in
     record { lent = (refl, refl, refl, refl); answer = answer; after = refl; happens = clause_happens s (sound j) ls r s answer refl }
 
-pub returns-then-is-full : goal.returns-then-is-full
-returns-then-is-full c =
+pub returns-then-is_full : goal.returns-then-is_full
+returns-then-is_full c =
     let j = c.args.self.now in
     let s = view j in
     let ls = c.args.literals.now in
     let x = c.in-ok-clause.clause.now in
     let m = makes s.variables ls x (outcome c.arrange-draft.result) j.range.0 c.in-ok-clause.ensures c.arrange-draft.ensures.outcome in
     let r : Result ℕ JobFault = Err Full in
-    let answer : r ≡ clause_answer s ls = clause_full s ls x m.is (omega arith) (sym c.if-is-full.ensures) in
+    let answer : r ≡ clause_answer s ls = clause_full s ls x m.is (omega arith) (sym c.if-is_full.ensures) in
     record { lent = (refl, refl, refl, refl); answer = answer; after = refl; happens = clause_happens s (sound j) ls r s answer refl }
 
-pub count-input-requires : goal.count-input-requires
-count-input-requires c =
+pub count_input-requires : goal.count_input-requires
+count_input-requires c =
     let j = c.args.self.now in
     let s = view j in
     let ls = c.args.literals.now in
     let x = c.in-ok-clause.clause.now in
     let m = makes s.variables ls x (outcome c.arrange-draft.result) j.range.0 c.in-ok-clause.ensures c.arrange-draft.ensures.outcome in
-    let room = room_for s (length x) j.counts.3 (sym c.if-is-full.ensures) in
+    let room = room_for s (length x) j.counts.3 (sym c.if-is_full.ensures) in
     let none : s.taken ≡ 0 = omega arith in
     let stored = c.store.ensures.after in
     let clauses = ap (λ (t : View). t.clauses) stored in
@@ -61,14 +61,14 @@ returns c =
     let ls = c.args.literals.now in
     let x = c.in-ok-clause.clause.now in
     let m = makes s.variables ls x (outcome c.arrange-draft.result) j.range.0 c.in-ok-clause.ensures c.arrange-draft.ensures.outcome in
-    let after : view c.count-input.new.self ≡ with_input true s (arranged ls) =
-    c.count-input.ensures.after ∙ ap (λ (t : View). counting_input t (length x)) c.store.ensures.after ∙ ap (with_input true s) m.same in
-    let r : Result ℕ JobFault = Ok c.count-input.new.self.clauses in
+    let after : view c.count_input.new.self ≡ with_input true s (arranged ls) =
+    c.count_input.ensures.after ∙ ap (λ (t : View). counting_input t (length x)) c.store.ensures.after ∙ ap (with_input true s) m.same in
+    let r : Result ℕ JobFault = Ok c.count_input.new.self.clauses in
     let answer : r ≡ clause_answer s ls =
-    ap (λ (t : View). Ok t.clauses) after ∙ clause_entered s ls x m.is (omega arith) (sym c.if-is-full.ensures) in
+    ap (λ (t : View). Ok t.clauses) after ∙ clause_entered s ls x m.is (omega arith) (sym c.if-is_full.ensures) in
     record {
       lent = search rules;
       answer = answer;
       after = after;
-      happens = clause_happens s (sound j) ls r (view c.count-input.new.self) answer after;
+      happens = clause_happens s (sound j) ls r (view c.count_input.new.self) answer after;
     }

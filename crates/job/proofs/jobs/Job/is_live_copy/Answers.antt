@@ -10,8 +10,8 @@ use Rattle.job.proofs.Standing.{row_live}
 use Rattle.job.proofs.Copies.{copy_down}
 use Rattle.job.proofs.jobs.Job.is_live_copy.Goals as goal
 
-pub returns-then-same-clause : goal.returns-then-same-clause
-returns-then-same-clause c =
+pub returns-then-same_clause : goal.returns-then-same_clause
+returns-then-same_clause c =
     let j = c.args.self.now in
     let n = c.args.n in
     let low = c.requires.0 in
@@ -21,12 +21,12 @@ returns-then-same-clause c =
     let steps = steps_of (view j) in
     let e : suc (n - 1) ≡ n = omega arith in
     let live =
-    c.is-live.ensures
+    c.is_live.ensures
     ∙ ap (λ (row : ClauseRow). eqb row.struck 0) c.record.ensures
     ∙ row_live (view j) (sound j) (n - 1) (omega arith)
     ∙ ap (λ (k : ℕ). not (is_struck k steps)) e in
-    let same = c.if-same-clause.ensures ∙ ap (same_clause clause) c.text.ensures in
-    let answer : c.is-live.result ≡ (same_clause clause (text n) && not (is_struck n steps)) =
+    let same = c.if-same_clause.ensures ∙ ap (same_clause clause) c.text.ensures in
+    let answer : c.is_live.result ≡ (same_clause clause (text n) && not (is_struck n steps)) =
     live ∙ ap (λ (b : Bool). b && not (is_struck n steps)) same in
     record {
       answer = answer;

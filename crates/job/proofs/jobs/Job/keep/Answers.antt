@@ -21,8 +21,8 @@ bounds-self-place c =
     let b = j.counts.1 in
     omega (arith, z.0, z.1)
 
-pub invariant-of-self : goal.invariant-of-self
-invariant-of-self c =
+pub invariant_of-self : goal.invariant_of-self
+invariant_of-self c =
     let t = view c.loop-j.self in
     let i = get_or c.args.numbers.now c.loop-j.j 0 - 1 in
     fields (with_rows (set t.rows i (kept_row (get_or t.rows i blank_row))) t) (sound_marked t i (kept_row (get_or t.rows i blank_row)) refl (sound c.loop-j.self))

@@ -11,8 +11,8 @@ loop-j-init c =
     let s = view c.args.self.now in
     ((refl, refl, refl, refl), ap (λ ls. with_lits ls s) (paste_none s.lits s.used c.args.clause.now))
 
-pub invariant-of-self : goal.invariant-of-self
-invariant-of-self c =
+pub invariant_of-self : goal.invariant_of-self
+invariant_of-self c =
     let t = view c.loop-j.self in
     let p = c.args.self.now.used + c.loop-j.j in
     let l = get_or c.args.clause.now c.loop-j.j blank in

@@ -13,36 +13,36 @@ use Rattle.job.proofs.Answering.{makes, room_for, lemma_ended, lemma_full, lemma
 use Rattle.job.proofs.Happening.{lemma_happens}
 use Rattle.job.proofs.jobs.Job.lemma.Goals as goal
 
-pub returns-then-is-ended : goal.returns-then-is-ended
-returns-then-is-ended c =
+pub returns-then-is_ended : goal.returns-then-is_ended
+returns-then-is_ended c =
     let j = c.args.self.now in
     let s = view j in
     let ls = c.args.literals.now in
     let x = c.in-ok-clause.clause.now in
     let m = makes s.variables ls x (outcome c.arrange-draft.result) j.range.0 c.in-ok-clause.ensures c.arrange-draft.ensures.outcome in
     let r : Result ℕ JobFault = Err Ended in
-    let answer : r ≡ lemma_answer s ls = lemma_ended s ls x m.is (sym c.if-is-ended.ensures) in
+    let answer : r ≡ lemma_answer s ls = lemma_ended s ls x m.is (sym c.if-is_ended.ensures) in
     record { lent = (refl, refl, refl, refl); answer = answer; after = refl; happens = lemma_happens s (sound j) ls r s answer refl }
 
-pub returns-then-is-full : goal.returns-then-is-full
-returns-then-is-full c =
+pub returns-then-is_full : goal.returns-then-is_full
+returns-then-is_full c =
     let j = c.args.self.now in
     let s = view j in
     let ls = c.args.literals.now in
     let x = c.in-ok-clause.clause.now in
     let m = makes s.variables ls x (outcome c.arrange-draft.result) j.range.0 c.in-ok-clause.ensures c.arrange-draft.ensures.outcome in
     let r : Result ℕ JobFault = Err Full in
-    let answer : r ≡ lemma_answer s ls = lemma_full s ls x m.is (sym c.if-is-ended.ensures) (sym c.if-is-full.ensures) in
+    let answer : r ≡ lemma_answer s ls = lemma_full s ls x m.is (sym c.if-is_ended.ensures) (sym c.if-is_full.ensures) in
     record { lent = (refl, refl, refl, refl); answer = answer; after = refl; happens = lemma_happens s (sound j) ls r s answer refl }
 
-pub count-lemma-requires : goal.count-lemma-requires
-count-lemma-requires c =
+pub count_lemma-requires : goal.count_lemma-requires
+count_lemma-requires c =
     let j = c.args.self.now in
     let s = view j in
     let ls = c.args.literals.now in
     let x = c.in-ok-clause.clause.now in
     let m = makes s.variables ls x (outcome c.arrange-draft.result) j.range.0 c.in-ok-clause.ensures c.arrange-draft.ensures.outcome in
-    let room = room_for s (length x) j.counts.3 (sym c.if-is-full.ensures) in
+    let room = room_for s (length x) j.counts.3 (sym c.if-is_full.ensures) in
     let bound = step_bound s (sound j) x room.0 room.1 in
     let stored = c.store.ensures.after in
     let clauses = ap (λ (t : View). t.clauses) stored in
@@ -52,7 +52,7 @@ count-lemma-requires c =
     let taken = ap (λ (t : View). t.taken) stored in
     record {
       places = (omega (arith, room.0), (omega (arith, room.1), omega arith));
-      sound = subst Sound (sym (ap (λ (t : View). counting_lemma t (length x)) stored)) (sound_lemma s (sound j) x room.0 room.1 (sym c.if-is-ended.ensures) m.rises);
+      sound = subst Sound (sym (ap (λ (t : View). counting_lemma t (length x)) stored)) (sound_lemma s (sound j) x room.0 room.1 (sym c.if-is_ended.ensures) m.rises);
     }
 
 pub returns : goal.returns
@@ -62,14 +62,14 @@ returns c =
     let ls = c.args.literals.now in
     let x = c.in-ok-clause.clause.now in
     let m = makes s.variables ls x (outcome c.arrange-draft.result) j.range.0 c.in-ok-clause.ensures c.arrange-draft.ensures.outcome in
-    let after : view c.count-lemma.new.self ≡ with_lemma true s (arranged ls) =
-    c.count-lemma.ensures.after ∙ ap (λ (t : View). counting_lemma t (length x)) c.store.ensures.after ∙ ap (with_lemma true s) m.same in
-    let r : Result ℕ JobFault = Ok c.count-lemma.new.self.clauses in
+    let after : view c.count_lemma.new.self ≡ with_lemma true s (arranged ls) =
+    c.count_lemma.ensures.after ∙ ap (λ (t : View). counting_lemma t (length x)) c.store.ensures.after ∙ ap (with_lemma true s) m.same in
+    let r : Result ℕ JobFault = Ok c.count_lemma.new.self.clauses in
     let answer : r ≡ lemma_answer s ls =
-    ap (λ (t : View). Ok t.clauses) after ∙ lemma_entered s ls x m.is (sym c.if-is-ended.ensures) (sym c.if-is-full.ensures) in
+    ap (λ (t : View). Ok t.clauses) after ∙ lemma_entered s ls x m.is (sym c.if-is_ended.ensures) (sym c.if-is_full.ensures) in
     record {
       lent = search rules;
       answer = answer;
       after = after;
-      happens = lemma_happens s (sound j) ls r (view c.count-lemma.new.self) answer after;
+      happens = lemma_happens s (sound j) ls r (view c.count_lemma.new.self) answer after;
     }

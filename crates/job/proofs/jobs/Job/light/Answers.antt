@@ -3,8 +3,8 @@ use Rattle.job.specs.Seen.{view}
 use Rattle.job.proofs.CheckSurround.{lit_allowed, lit_more}
 use Rattle.job.proofs.jobs.Job.light.Goals as goal
 
-pub light-one-requires : goal.light-one-requires
-light-one-requires g c =
+pub light_one-requires : goal.light_one-requires
+light_one-requires g c =
     record {
       place = c.loop-i-test.true;
       sound = c.loop-i.invariant.1;
@@ -13,6 +13,6 @@ light-one-requires g c =
 
 pub loop-i-preserved : goal.loop-i-preserved
 loop-i-preserved g c = (
-  lit_more (view c.args.self.now) (g.E.Engine.meaning c.args.engine.now) c.loop-i.i (g.E.Engine.meaning c.loop-i.engine) c.loop-i.invariant.0 c.loop-i-test.true (g.E.Engine.meaning c.light-one.new.engine) c.light-one.ensures.does,
-  c.light-one.ensures.stays,
+  lit_more (view c.args.self.now) (g.E.Engine.meaning c.args.engine.now) c.loop-i.i (g.E.Engine.meaning c.loop-i.engine) c.loop-i.invariant.0 c.loop-i-test.true (g.E.Engine.meaning c.light_one.new.engine) c.light_one.ensures.does,
+  c.light_one.ensures.stays,
 )

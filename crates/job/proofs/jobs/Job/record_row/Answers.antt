@@ -9,8 +9,8 @@ use Rattle.job.proofs.CheckFit.{fit}
 use Rattle.job.proofs.CheckJudgement.{all_within, place_same, its_row, row_fits, row_on, recorded_is}
 use Rattle.job.proofs.jobs.Job.record_row.Goals as goal
 
-pub row-of-row-requires : goal.row-of-row-requires
-row-of-row-requires g c =
+pub row_of-row-requires : goal.row_of-row-requires
+row_of-row-requires g c =
     let j = c.args.self.now in
     let o = fit (view j) (sound j) in
     let l = o.all_texts in
@@ -21,26 +21,26 @@ row-of-row-requires g c =
       numbered = (c.requires.numbered.0, omega (arith, c.requires.numbered.1));
     }
 
-pub lay-row-requires : goal.lay-row-requires
-lay-row-requires g c =
+pub lay_row-requires : goal.lay_row-requires
+lay_row-requires g c =
     let s = view c.args.self.now in
-    row_fits (g.E.Engine.meaning c.args.engine.now) s c.requires.holds (latest c.args.answers.now) c.args.conflict c.numbers.result.now (c.numbers.ensures ∙ c.row-of-row.ensures)
+    row_fits (g.E.Engine.meaning c.args.engine.now) s c.requires.holds (latest c.args.answers.now) c.args.conflict c.numbers.result.now (c.numbers.ensures ∙ c.row_of-row.ensures)
     c.args.n (((c.args.n - 1) - s.inputs) * (s.variables + 1)) (λ i. ((c.args.n - 1) - s.inputs) * (s.variables + 1)) c.requires.few c.requires.room.2
 
 pub keep-requires : goal.keep-requires
 keep-requires g c κs n x =
     let m = g.E.Engine.meaning c.args.engine.now in
     let s = view c.args.self.now in
-    let on = row_on m s c.requires.holds (latest c.args.answers.now) c.args.conflict c.numbers-2.result.now (c.numbers-2.ensures ∙ c.row-of-row.ensures) c.requires.live n x in
+    let on = row_on m s c.requires.holds (latest c.args.answers.now) c.args.conflict c.numbers-2.result.now (c.numbers-2.ensures ∙ c.row_of-row.ensures) c.requires.live n x in
     let z = c.requires.holds.numbered n on in
-    let e = ap (λ (v : View). v.clauses) c.lay-row.ensures.after in
+    let e = ap (λ (v : View). v.clauses) c.lay_row.ensures.after in
     (z.0, omega (arith, z.1))
 
-pub prefer-all-requires : goal.prefer-all-requires
-prefer-all-requires g c = record {
+pub prefer_all-requires : goal.prefer_all-requires
+prefer_all-requires g c = record {
   sound = c.requires.sound;
   idle = c.requires.holds.shut;
-  on = row_on (g.E.Engine.meaning c.args.engine.now) (view c.args.self.now) c.requires.holds (latest c.args.answers.now) c.args.conflict c.numbers-3.result.now (c.numbers-3.ensures ∙ c.row-of-row.ensures) c.requires.live;
+  on = row_on (g.E.Engine.meaning c.args.engine.now) (view c.args.self.now) c.requires.holds (latest c.args.answers.now) c.args.conflict c.numbers-3.result.now (c.numbers-3.ensures ∙ c.row_of-row.ensures) c.requires.live;
 }
 
 pub returns : goal.returns
@@ -50,15 +50,15 @@ returns g c =
     let answers = latest c.args.answers.now in
     let at = c.args.conflict in
     let row = gathered (text_of m) answers (at ∷ []) in
-    let a = c.lay-row.ensures.lent in
+    let a = c.lay_row.ensures.lent in
     let b = c.keep.ensures.lent in
     record {
       lent = (b.0 ∙ a.0, b.1 ∙ a.1, b.2 ∙ a.2, b.3 ∙ a.3);
-      after = recorded_is s (view c.lay-row.new.self) (view c.keep.new.self) c.args.n (((c.args.n - 1) - s.inputs) * (s.variables + 1)) c.numbers.result.now c.numbers-2.result.now row
-          (its_row m s c.requires.holds answers at c.numbers.result.now (c.numbers.ensures ∙ c.row-of-row.ensures))
-          (its_row m s c.requires.holds answers at c.numbers-2.result.now (c.numbers-2.ensures ∙ c.row-of-row.ensures))
-          (place_same c.args.n s.inputs s.variables) c.lay-row.ensures.after c.keep.ensures.after;
-      length = ap length (its_row m s c.requires.holds answers at c.numbers-4.result.now (c.numbers-4.ensures ∙ c.row-of-row.ensures));
-      does = c.prefer-all.ensures.does;
-      stays = c.prefer-all.ensures.stays;
+      after = recorded_is s (view c.lay_row.new.self) (view c.keep.new.self) c.args.n (((c.args.n - 1) - s.inputs) * (s.variables + 1)) c.numbers.result.now c.numbers-2.result.now row
+          (its_row m s c.requires.holds answers at c.numbers.result.now (c.numbers.ensures ∙ c.row_of-row.ensures))
+          (its_row m s c.requires.holds answers at c.numbers-2.result.now (c.numbers-2.ensures ∙ c.row_of-row.ensures))
+          (place_same c.args.n s.inputs s.variables) c.lay_row.ensures.after c.keep.ensures.after;
+      length = ap length (its_row m s c.requires.holds answers at c.numbers-4.result.now (c.numbers-4.ensures ∙ c.row_of-row.ensures));
+      does = c.prefer_all.ensures.does;
+      stays = c.prefer_all.ensures.stays;
     }

@@ -109,7 +109,7 @@ returns g c =
       comes = (
         accepts s s₁ f₁ o₁ m₂ m₃ q s₂ c.walk-step.new.tally _ (ended_first s o m a s₁ o₁ e) (rooms_first s o m a s₁ o₁ e) c.walk-step.ensures.framed
             (subst (λ (r : ℕ). Walked s₁ r s₂ m₂ c.walk-step.new.tally) c.if-step-ne0.false c.walk-step.ensures.walked)
-            c.kept-inputs.ensures refl refl c.answers.ensures,
+            c.kept_inputs.ensures refl refl c.answers.ensures,
         c.answers.ensures,
       );
       idle = idle_after s s₁ m₂ m₃ f₁ h.0 s₂.clauses (clauses_framed s s₂ f₂) c.darken.ensures.does;

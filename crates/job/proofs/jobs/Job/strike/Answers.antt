@@ -12,15 +12,15 @@ use Rattle.job.proofs.Strikes.{its_place, strike_bound, sound_strike}
 use Rattle.job.proofs.Happening.{strike_happens}
 use Rattle.job.proofs.jobs.Job.strike.Goals as goal
 
-pub returns-then-is-ended : goal.returns-then-is-ended
-returns-then-is-ended c =
+pub returns-then-is_ended : goal.returns-then-is_ended
+returns-then-is_ended c =
     let j = c.args.self.now in
     let s = view j in
     let ls = c.args.literals.now in
     let x = c.in-ok-clause.clause.now in
     let m = makes s.variables ls x (outcome c.arrange-draft.result) j.range.0 c.in-ok-clause.ensures c.arrange-draft.ensures.outcome in
     let r : Result ℕ JobFault = Err Ended in
-    let answer : r ≡ strike_answer s ls = strike_ended s ls x m.is (sym c.if-is-ended.ensures) in
+    let answer : r ≡ strike_answer s ls = strike_ended s ls x m.is (sym c.if-is_ended.ensures) in
     record { lent = (refl, refl, refl, refl); answer = answer; after = refl; happens = strike_happens s (sound j) ls r s answer refl }
 
 pub returns-in-default : goal.returns-in-default
@@ -31,11 +31,11 @@ returns-in-default c =
     let x = c.in-ok-clause.clause.now in
     let m = makes s.variables ls x (outcome c.arrange-draft.result) j.range.0 c.in-ok-clause.ensures c.arrange-draft.ensures.outcome in
     let r : Result ℕ JobFault = Err NoneLive in
-    let answer : r ≡ strike_answer s ls = strike_none_live s ls x m.is (sym c.if-is-ended.ensures) c.in-default.ensures in
+    let answer : r ≡ strike_answer s ls = strike_none_live s ls x m.is (sym c.if-is_ended.ensures) c.in-default.ensures in
     record { lent = (refl, refl, refl, refl); answer = answer; after = refl; happens = strike_happens s (sound j) ls r s answer refl }
 
-pub put-strike-requires : goal.put-strike-requires
-put-strike-requires c =
+pub put_strike-requires : goal.put_strike-requires
+put_strike-requires c =
     let j = c.args.self.now in
     let s = view j in
     let n = c.in-Some.n in
@@ -46,7 +46,7 @@ put-strike-requires c =
     record {
       number = (f.1, omega (arith, f.1));
       place = strike_bound s (sound j) n live;
-      sound = sound_strike s (sound j) n live (sym c.if-is-ended.ensures);
+      sound = sound_strike s (sound j) n live (sym c.if-is_ended.ensures);
     }
 
 pub returns : goal.returns
@@ -59,12 +59,12 @@ returns c =
     let m = makes s.variables ls x (outcome c.arrange-draft.result) j.range.0 c.in-ok-clause.ensures c.arrange-draft.ensures.outcome in
     let f = c.in-Some.ensures in
     let r : Result ℕ JobFault = Ok n in
-    let answer : r ≡ strike_answer s ls = strike_found s ls x m.is n (sym c.if-is-ended.ensures) f.0 f.1 in
-    let after : view c.put-strike.new.self ≡ with_strike true s (copy_in s (arranged ls)) =
-    c.put-strike.ensures.after ∙ ap (with_strike true s) (f.0 ∙ ap (copy_in s) m.same) in
+    let answer : r ≡ strike_answer s ls = strike_found s ls x m.is n (sym c.if-is_ended.ensures) f.0 f.1 in
+    let after : view c.put_strike.new.self ≡ with_strike true s (copy_in s (arranged ls)) =
+    c.put_strike.ensures.after ∙ ap (with_strike true s) (f.0 ∙ ap (copy_in s) m.same) in
     record {
-      lent = c.put-strike.ensures.lent;
+      lent = c.put_strike.ensures.lent;
       answer = answer;
       after = after;
-      happens = strike_happens s (sound j) ls r (view c.put-strike.new.self) answer after;
+      happens = strike_happens s (sound j) ls r (view c.put_strike.new.self) answer after;
     }

@@ -4,8 +4,8 @@ use Rattle.job.proofs.CheckFit.{fit}
 use Rattle.job.proofs.CheckJudgement.{lemma_consistent}
 use Rattle.job.proofs.jobs.Job.try_number.Goals as goal
 
-pub try-lemma-requires : goal.try-lemma-requires
-try-lemma-requires g c =
+pub try_lemma-requires : goal.try_lemma-requires
+try_lemma-requires g c =
     let j = c.args.self.now in
     record {
       sound = c.requires.sound;

@@ -22,8 +22,8 @@ loop-i-preserved c =
           ∙ ap (λ r. with_rows r s) (map_over_more bare s.rows (unmarked i s.rows) i (get_or (unmarked i s.rows) i blank_row) h refl (get_or_default (unmarked i s.rows) i blank_row (get_or (unmarked i s.rows) i blank_row) k)),
     )
 
-pub invariant-of-self : goal.invariant-of-self
-invariant-of-self c =
+pub invariant_of-self : goal.invariant_of-self
+invariant_of-self c =
     let t = view c.loop-i.self in
     let i = c.loop-i.i in
     fields (with_rows (set t.rows i (bare (get_or t.rows i blank_row))) t) (sound_marked t i (bare (get_or t.rows i blank_row)) refl (sound c.loop-i.self))

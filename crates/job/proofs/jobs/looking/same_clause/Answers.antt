@@ -7,14 +7,14 @@ use Rattle.job.proofs.jobs.looking.same_clause.Goals as goal
 pub returns-then-a-b : goal.returns-then-a-b
 returns-then-a-b c = sym (lengths_apart c.args.a.now c.args.b.now c.if-a-b.true)
 
-pub returns-then-not-same-literal : goal.returns-then-not-same-literal
-returns-then-not-same-literal c =
+pub returns-then-not-same_literal : goal.returns-then-not-same_literal
+returns-then-not-same_literal c =
     let a = c.args.a.now in
     let b = c.args.b.now in
     let i = c.loop-i.i in
     let e : length a ≡ length b = omega arith in
     sym (sym c.loop-i.invariant ∙ same_more a b i c.loop-i-test.true e
-    ∙ and_left _ _ (sym c.same-literal.ensures ∙ c.if-not-same-literal.true))
+    ∙ and_left _ _ (sym c.same_literal.ensures ∙ c.if-not-same_literal.true))
 
 pub loop-i-preserved : goal.loop-i-preserved
 loop-i-preserved c =
@@ -23,7 +23,7 @@ loop-i-preserved c =
     let i = c.loop-i.i in
     let e : length a ≡ length b = omega arith in
     sym (sym c.loop-i.invariant ∙ same_more a b i c.loop-i-test.true e
-    ∙ ap (λ (x : Bool). x && same_clause (drop (i + 1) a) (drop (i + 1) b)) (sym c.same-literal.ensures ∙ c.if-not-same-literal.false))
+    ∙ ap (λ (x : Bool). x && same_clause (drop (i + 1) a) (drop (i + 1) b)) (sym c.same_literal.ensures ∙ c.if-not-same_literal.false))
 
 pub returns : goal.returns
 returns c =

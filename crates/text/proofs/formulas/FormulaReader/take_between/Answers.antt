@@ -15,21 +15,21 @@ returns-in-Number c =
     let v = r.variables in
     let n = r.remaining in
     let some : 0 < n = omega arith in
-    let begun = c.start-clause.ensures.state in
+    let begun = c.start_clause.ensures.state in
     let from = ap (λ s. moved s (number w) p) begun in
     let was = ap (λ q. standing q v n (outcome r.draft)) c.requires in
     let whole = begins v n w p some ∙ ap (λ s. moved s (number w) p) (sym was) ∙ ap (λ s. moved (state_of r) s p) (sym (ap shape_of c.in-Number.is)) in
     record {
       takes = record {
-        answer = c.take-number.ensures.takes.answer ∙ from ∙ whole;
+        answer = c.take_number.ensures.takes.answer ∙ from ∙ whole;
         state =
-            c.take-number.ensures.takes.state
-            ∙ ap (λ m. settled m (state_of c.start-clause.new.self)) from
-            ∙ begins_settled v (n - 1) w p (state_of c.start-clause.new.self) (state_of r)
+            c.take_number.ensures.takes.state
+            ∙ ap (λ m. settled m (state_of c.start_clause.new.self)) from
+            ∙ begins_settled v (n - 1) w p (state_of c.start_clause.new.self) (state_of r)
             ∙ ap (λ m. settled m (state_of r)) whole;
       };
       words = record {
-        words = c.take-number.ensures.words.words ∙ c.start-clause.ensures.words.words;
-        extent = c.take-number.ensures.words.extent ∙ c.start-clause.ensures.words.extent;
+        words = c.take_number.ensures.words.words ∙ c.start_clause.ensures.words.words;
+        extent = c.take_number.ensures.words.extent ∙ c.start_clause.ensures.words.extent;
       };
     }
