@@ -53,8 +53,8 @@ forces_true trail c l e =
     let n = or_parts (holds l trail) (holds (complement l) trail) (not-true (holds l trail || holds (complement l) trail) b.0) in
     record {
       stands = holds_true l c a.0;
-      not-true = λ m. holds_false m n.0;
-      not-false = λ m. holds_false m n.1;
+      not_true = λ m. holds_false m n.0;
+      not_false = λ m. holds_false m n.1;
       others = others_true trail c l b.1;
     }
 
@@ -78,7 +78,7 @@ idle_by_true trail c k e t =
     record {
       not_falsified = λ f. o.1 (f k o.0);
       forces_none = λ l f. elim (same_or_not k l) [
-        | inl p ↦ f.not-true (subst (λ (x : Literal). x ∈ trail) p (holds_true k trail t))
+        | inl p ↦ f.not_true (subst (λ (x : Literal). x ∈ trail) p (holds_true k trail t))
         | inr d ↦ o.1 (f.others k o.0 d)
       ];
     }
