@@ -1,7 +1,7 @@
 -- Tests that decide whether answers are right, so that a worked trial is shown by computing it.
 use Rattle.std.proofs.Common.{◌≡◌, ℕ, Bool, true, false, not, ◌&&◌, ◌||◌, leb, List, [], ◌∷◌, length, sym, ap, ◌∙◌, subst, inl, inr, true≢false}
 use mathlib.Core.List.Memᴰ
-use Rattle.std.proofs.lemmas.Bool.{and_parts, leb-true, not-false, not-true, or_cases, or_parts}
+use Rattle.std.proofs.lemmas.Bool.{and_parts, leb-true, not-true, or_cases, or_parts}
 use Rattle.cnf.specs.declared.literals.Literal.{Literal}
 use Rattle.cnf.specs.Literals.{complement, same_literal}
 use Rattle.cnf.specs.Clauses.{Clause, ◌∈◌}

@@ -12,7 +12,6 @@ use Rattle.drup.specs.Box.{Checks}
 use Rattle.drup.specs.Jobs.{WorkedJobs, counts, job_a, job_b, job_c, job_d, job_e, keeping, machine_of, neg, pos, row}
 use Rattle.drup.proofs.Numbers.{at_most, same_marks}
 use Rattle.drup.proofs.Deciding.{Idle, idle_by_true, live_conflict, live_nothing}
-use Rattle.drup.proofs.WellFormed.{not_ended}
 
 -- clause n forces l
 abbrev pub by : Literal → (n : ℕ) → Forced
