@@ -1,4 +1,4 @@
--- There are at most two steps to a clause place: each clause is entered once, and is_struck once while it lives.
+-- There are at most two steps to a clause place: each clause is entered once, and struck once while it lives.
 use Rattle.std.proofs.Common.{◌≡◌, ℕ, zero, suc, ◌+◌, ◌≤◌, false, List, [], ◌∷◌, length, refl, ◌∙◌, true≢false, arith}
 use Rattle.std.proofs.lemmas.Bool.{eqb-false}
 use Rattle.cnf.specs.Clauses.{Clause}
@@ -56,7 +56,7 @@ lemmas_most inputs [] = omega arith
 lemmas_most inputs (learned c ∷ earlier) = let h = lemmas_most inputs earlier in omega arith
 lemmas_most inputs (struck n ∷ earlier) = lemmas_most inputs earlier
 
--- the steps are the lemmas and one struck for each is_struck clause
+-- the steps are the lemmas and one struck for each struck clause
 steps_counted :
     (inputs : List Clause) (steps : List Step) → StrikesLive inputs steps
     → length steps ≤ lemmas steps + counted (length (table inputs steps)) (λ n. is_struck n steps)

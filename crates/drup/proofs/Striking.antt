@@ -68,7 +68,7 @@ same_clause_self : (c : Clause) → same_clause c c ≡ true
 same_clause_self [] = refl
 same_clause_self (l ∷ c) = rw (same_literal_self l) (same_clause_self c)
 
--- clause n of these is c and was not is_struck
+-- clause n of these is c and was not struck
 record Copy (c : Clause) (cs : List Clause) (steps : List Step) (n : ℕ) : Type 0 where
   numbered : 1 ≤ n
   entered : n ≤ length cs
