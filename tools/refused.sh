@@ -12,17 +12,14 @@
 #   error: CODE         the error, as in 'error[CODE]'
 #
 # Usage: tools/refused.sh [EDIT...]     without EDIT: all of refused/
-# Run it after the crates are proved: what target/ has of them is not proved again.
+# The copy has no out/: the crates below an edited one are proved there first, unless a check on this machine kept them.
 set -u
 root=$(cd "$(dirname "$0")/.." && pwd) || exit 2
 [ $# -gt 0 ] || set -- "$root"/refused/*.edit
 work=$(mktemp -d) || exit 2
 trap 'rm -rf "$work"' EXIT
 trap 'exit 2' HUP INT TERM
-cp -R "$root/crates" "$root/crates.txt" "$work" || exit 2
-if [ -d "$root/target" ]; then
-    cp -R "$root/target" "$work" || exit 2
-fi
+tar -C "$root" --exclude=out -cf - crates crates.txt | tar -C "$work" -xf - || exit 2
 
 field() { sed -n "s/^$1: \{0,1\}//p" "$2"; }
 
@@ -56,9 +53,9 @@ for edit in "$@"; do
         echo "BAD EDIT: $name"
         failed=$((failed + 1))
     else
-        said=$(cd "$work" && rt check "$crate" 2>&1)
+        said=$(cd "$work/crates/$crate" && rt check 2>&1)
         status=$?
-        if [ "$status" -eq 1 ] && printf '%s\n' "$said" | grep -F "$crate/$file:" | grep -qF "error[$code]"; then
+        if [ "$status" -eq 1 ] && printf '%s\n' "$said" | grep -F "$file:" | grep -qF "error[$code]"; then
             echo "refused: $name ($code)"
             refused=$((refused + 1))
         else
