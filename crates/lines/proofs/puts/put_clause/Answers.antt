@@ -1,4 +1,4 @@
-use Rattle.std.proofs.Common.{◌≡◌, length, get_or, take, codes, sym, ap, ◌∙◌, arith}
+use Rattle.std.proofs.Common.{length, get_or, take, codes, sym, ap, ◌∙◌, arith}
 use Rattle.std.specs.List.{flat_map}
 use Rattle.std.proofs.lemmas.List.{append_assoc, take_all}
 use Rattle.lines.specs.Texts.{literal_text, literal_word}

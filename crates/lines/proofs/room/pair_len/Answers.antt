@@ -1,4 +1,4 @@
-use Rattle.std.proofs.Common.{sym, arith}
+use Rattle.std.proofs.Common.{arith}
 use Rattle.lines.proofs.Joins.{length_pair}
 use Rattle.lines.proofs.room.pair_len.Goals as goal
 
