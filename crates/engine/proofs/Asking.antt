@@ -1,5 +1,5 @@
 -- Asking until there is a conflict or nothing more is forced.
-use Rattle.std.proofs.Common.{◌≡◌, ℕ, zero, suc, ◌+◌, ◌-◌, ◌<◌, ◌≤◌, min, Bool, true, false, List, [], ◌∷◌, ◌++◌, map, length, sym, refl, ap, ◌∙◌, subst, inl, inr, arith}
+use Rattle.std.proofs.Common.{◌≡◌, ℕ, suc, ◌+◌, ◌≤◌, min, Bool, true, false, List, [], ◌∷◌, ◌++◌, length, sym, refl, ap, ◌∙◌, subst, inl, inr, arith}
 use mathlib.Core.List.Memᴰ
 use mathlib.Core.List.Memᴰ.{cases_cons as in-cons}
 use mathlib.Core.List.Memᴰ.{head as here}
@@ -8,13 +8,12 @@ use Rattle.std.proofs.lemmas.List.{map_push, length_push, length-map}
 use Rattle.cnf.specs.declared.literals.Literal.{Literal}
 use Rattle.cnf.specs.Literals.{complement}
 use Rattle.cnf.specs.Clauses.{Clause, ◌∈◌}
-use Rattle.cnf.specs.Propagation.{Falsified, Forces, Derivation, Passes}
+use Rattle.cnf.specs.Propagation.{Falsified, Forces, Derivation}
 use Rattle.cnf.proofs.Arranging.{all_cons, in_push}
 use Rattle.cnf.proofs.Derivations.{derives_before, saturated}
 use Rattle.engine.specs.declared.answers.Entry.{Entry}
-use Rattle.engine.specs.declared.answers.Answer.{Answer}
 use Rattle.engine.specs.declared.answers.Answer.TheVariants.{Conflict, Forced, Nothing}
-use Rattle.engine.specs.Meaning.{Meaning, highest, most, On, text_of, values, values_of, entry, with_trail, with_opened, joined_by, counted, counted_by, Says, answered, WellFormed}
+use Rattle.engine.specs.Meaning.{Meaning, highest, most, On, text_of, values, values_of, entry, with_trail, with_opened, counted, counted_by, Says, answered, WellFormed}
 use Rattle.engine.specs.Trials.{OnText, Decides, Derivable, Asked, Tried, supposed}
 use Rattle.engine.proofs.Consistent.{consistent_length}
 use Rattle.engine.proofs.Supposing.{values_supposed, supposed_length}

@@ -1,13 +1,12 @@
 -- Literals that can stand on one trail: how one more joins them, and how many there can be.
-use Rattle.std.proofs.Common.{◌≡◌, ℕ, ◌+◌, ◌<◌, ◌≤◌, Bool, true, false, ◌||◌, eqb, ltb, List, [], ◌∷◌, ◌++◌, map, length, sym, refl, ap, ◌∙◌, arith}
+use Rattle.std.proofs.Common.{◌≡◌, ℕ, ◌+◌, ◌<◌, ◌≤◌, false, eqb, ltb, List, [], ◌∷◌, ◌++◌, length, refl, arith}
 use mathlib.Core.List.Memᴰ.{head as here}
 use mathlib.Core.List.Memᴰ.{tail as there}
-use Rattle.std.proofs.lemmas.Bool.{or_parts, or_from, eqb-false, ne_eqb, le-ltb}
+use Rattle.std.proofs.lemmas.Bool.{or_parts, or_from, ne_eqb, le-ltb}
 use Rattle.std.proofs.lemmas.List.{length-map}
 use Rattle.cnf.specs.declared.literals.Literal.{Literal}
-use Rattle.cnf.specs.Literals.{complement}
 use Rattle.cnf.specs.Clauses.{Clause, ◌∈◌, Rising, IsClause}
-use Rattle.cnf.specs.Arranging.{outside, names, beyond, repeats, twice, arranged}
+use Rattle.cnf.specs.Arranging.{outside, names, beyond, repeats, arranged}
 use Rattle.cnf.proofs.Arranging.{arranged_clause, arranged_length, clause_beyond, clause_twice}
 use Rattle.engine.specs.declared.answers.Entry.{Entry}
 use Rattle.engine.specs.Meaning.{highest, values_of, Consistent}

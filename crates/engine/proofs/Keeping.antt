@@ -1,5 +1,5 @@
 -- What an engine stands for stays well formed by every call.
-use Rattle.std.proofs.Common.{◌≡◌, ℕ, zero, suc, ◌+◌, ◌-◌, ◌<◌, ◌≤◌, min, Bool, true, false, cond, not, ◌||◌, eqb, ltb, leb, ◌⊎◌, List, [], ◌∷◌, ◌++◌, map, length, get_or, set, Some, None, Ok, Err, Option, Result, sym, refl, ap, ◌∙◌, subst, inl, inr, ⊎_elim, true≢false, arith}
+use Rattle.std.proofs.Common.{◌≡◌, ℕ, zero, suc, ◌+◌, ◌-◌, ◌<◌, ◌≤◌, Bool, true, false, cond, not, ltb, leb, List, [], ◌∷◌, ◌++◌, length, get_or, Some, None, Ok, Err, Option, Result, sym, refl, ◌∙◌, subst, inl, inr, ⊎_elim, true≢false, arith}
 use mathlib.Core.Bool.{false≢true}
 use mathlib.Core.List.Memᴰ
 use mathlib.Core.List.Memᴰ.{head as here}
@@ -17,7 +17,7 @@ use Rattle.engine.specs.declared.answers.Entry.{Entry}
 use Rattle.engine.specs.declared.answers.Answer.{Answer}
 use Rattle.engine.specs.declared.answers.Answer.TheVariants.{Conflict, Forced, Nothing}
 use Rattle.engine.specs.declared.faults.EngineFault.{EngineFault}
-use Rattle.engine.specs.Meaning.{Meaning, highest, most, text_in, text_of, On, values, values_of, entry, empty, cleared, with_text, with_mark, with_opened, joined_by, counted, no_room, shut, no_trial, no_put, no_on, no_off, no_assume, Says, answered, Does, Clears, Puts, TurnsOn, TurnsOff, Prefers, Opens, Assumes, Next, Ends, Consistent, WellFormed}
+use Rattle.engine.specs.Meaning.{Meaning, highest, most, text_of, On, values, entry, empty, cleared, with_text, with_mark, with_opened, joined_by, counted, no_room, shut, no_trial, no_put, no_on, no_off, no_assume, Says, answered, Does, Clears, Puts, TurnsOn, TurnsOff, Prefers, Opens, Assumes, Next, Ends, Consistent, WellFormed}
 use Rattle.engine.proofs.Consistent.{consistent_push, within_inside}
 
 -- a rule list that is not broken

@@ -1,11 +1,11 @@
 -- What the looks at a text find, and what loops over a list have found so far.
-use Rattle.std.proofs.Common.{◌≡◌, ℕ, ◌+◌, ◌<◌, ◌≤◌, Bool, true, false, cond, ◌&&◌, ◌||◌, ◌⊎◌, List, [], ◌∷◌, length, get_or, drop, Some, None, Option, sym, refl, ap, ◌∙◌, subst, inl, inr, ⊎_elim, true≢false, arith}
+use Rattle.std.proofs.Common.{◌≡◌, ℕ, ◌+◌, ◌<◌, ◌≤◌, Bool, true, false, cond, ◌||◌, List, [], ◌∷◌, length, get_or, drop, Some, None, Option, sym, refl, ap, ◌∙◌, inl, inr}
 use mathlib.Core.Bool.{false≢true}
 use mathlib.Core.List.Memᴰ
 use mathlib.Core.List.Memᴰ.{cases_cons as in-cons}
 use mathlib.Core.List.Memᴰ.{head as here}
 use mathlib.Core.List.Memᴰ.{tail as there}
-use Rattle.std.proofs.lemmas.Bool.{and_parts, and_from, or_parts, or_cases, or_left, or_right, both_ways, cases_Bool, eq-eqb, cond-true, cond-false}
+use Rattle.std.proofs.lemmas.Bool.{and_parts, and_from, or_cases, or_left, or_right, both_ways, eq-eqb}
 use Rattle.std.proofs.lemmas.List.{at_drop_more, at_drop_all}
 use Rattle.cnf.specs.declared.literals.Literal.{Literal}
 use Rattle.cnf.specs.Literals.{complement, same_literal}
@@ -16,7 +16,7 @@ use Rattle.cnf.proofs.Arranging.{all_cons, names_false}
 use Rattle.cnf.proofs.Complements.{same_literal_true, same_literal_self, same_or_not}
 use Rattle.cnf.proofs.Derivations.{forced_new}
 use Rattle.engine.specs.declared.answers.Entry.{Entry}
-use Rattle.engine.specs.Looks.{stands, is_false, is_spared, all_false_but, falsified, first_open, if_others_false, forced}
+use Rattle.engine.specs.Looks.{stands, is_false, all_false_but, falsified, first_open, if_others_false, forced}
 
 -- what an element past the end reads as
 abbrev pub nobody : Literal

@@ -1,5 +1,5 @@
 -- What the rules of each call say, from the tests that an engine makes.
-use Rattle.std.proofs.Common.{◌≡◌, ℕ, Bool, true, false, cond, not, ◌||◌, List, [], length, Some, None, Ok, Err, Option, sym, refl, ap, ◌∙◌, subst, arith}
+use Rattle.std.proofs.Common.{◌≡◌, ℕ, Bool, true, false, cond, not, List, [], length, Some, None, Ok, Err, Option, sym, refl, ap, ◌∙◌, arith}
 use Rattle.std.proofs.lemmas.Bool.{cond-true, cond-false, not_from_true, not_from_false}
 use Rattle.cnf.specs.declared.literals.Literal.{Literal}
 use Rattle.cnf.specs.declared.faults.ClauseFault.{ClauseFault}
@@ -9,7 +9,7 @@ use Rattle.cnf.specs.Arranging.{outside, names, beyond, in_range_until, twice, n
 use Rattle.cnf.proofs.Arranging.{arranged_length}
 use Rattle.engine.specs.declared.faults.EngineFault.{EngineFault}
 use Rattle.engine.specs.declared.faults.EngineFault.TheVariants.{Clause as Faulty, Full, NoSuchText, AlreadyOn, NotOn, HasValue, TrialOpen, NoTrial}
-use Rattle.engine.specs.Meaning.{Meaning, highest, values, is_on, no_text, no_room, first_broken, shut, no_trial, no_put, no_on, no_off, no_assume}
+use Rattle.engine.specs.Meaning.{Meaning, highest, values, is_on, no_text, no_room, shut, no_trial, no_put, no_on, no_off, no_assume}
 
 -- a meaning from its parts
 pub alike : {m n : Meaning} → m.texts ≡ n.texts → m.on ≡ n.on → m.trail ≡ n.trail → m.opened ≡ n.opened

@@ -1,12 +1,12 @@
 -- Assuming the complements of a clause's literals.
-use Rattle.std.proofs.Common.{◌≡◌, ℕ, zero, suc, ◌+◌, ◌<◌, ◌≤◌, Bool, true, false, ◌||◌, eqb, List, [], ◌∷◌, ◌++◌, map, length, get_or, take, None, sym, refl, ap, ◌∙◌, subst, arith}
+use Rattle.std.proofs.Common.{◌≡◌, ℕ, zero, suc, ◌+◌, ◌<◌, Bool, true, false, ◌||◌, eqb, List, [], ◌∷◌, ◌++◌, map, length, get_or, take, None, sym, refl, ap, ◌∙◌, arith}
 use Rattle.std.proofs.lemmas.List.{take_more, map_push, length-map}
 use Rattle.std.proofs.lemmas.Bool.{or_parts, or_from}
 use Rattle.cnf.specs.declared.literals.Literal.{Literal}
 use Rattle.cnf.specs.Literals.{complement}
 use Rattle.cnf.specs.Arranging.{outside, names, beyond, repeats}
 use Rattle.engine.specs.declared.answers.Entry.{Entry}
-use Rattle.engine.specs.Meaning.{Meaning, highest, values, values_of, entry, with_trail, joined_by, no_assume, Consistent}
+use Rattle.engine.specs.Meaning.{Meaning, highest, values_of, entry, with_trail, joined_by, no_assume, Consistent}
 use Rattle.engine.specs.Trials.{supposed}
 use Rattle.engine.proofs.Refusing.{assume_done}
 

@@ -1,4 +1,4 @@
-use Rattle.std.proofs.Common.{◌≡◌, ◌+◌, Bool, true, ◌&&◌, get_or, drop, sym, ap, ◌∙◌}
+use Rattle.std.proofs.Common.{◌+◌, Bool, ◌&&◌, drop, sym, ap, ◌∙◌}
 use Rattle.std.proofs.lemmas.Bool.{and_left, or_from, or_left, or_right}
 use Rattle.engine.specs.Meaning.{values_of}
 use Rattle.engine.specs.Looks.{all_false_but}
