@@ -28,7 +28,7 @@ pub loop-end-smaller : goal.loop-end-smaller
 loop-end-smaller g c =
     let on =
     goes_on (g.E.Engine.meaning c.args.engine.now) (latest c.loop-end.answers) (g.E.Engine.meaning c.loop-end.engine) c.loop-end.invariant.0
-    (g.E.Engine.laws c.args.engine.now c.requires.sound) c.next_answer-answer.result c.next_answer-answer.ensures.says (sym c.in-default.ensures.ends)
+    (g.E.Engine.laws c.args.engine.now c.requires.sound) c.next_answer-answer.result c.next_answer-answer.ensures.says (sym c.in_default.ensures.ends)
     (latest c.note.new.answers) c.note.ensures.noted (g.E.Engine.meaning c.next_answer-answer.new.engine) c.next_answer-answer.ensures.does in
     omega (arith, on.1.0, on.1.1)
 
@@ -36,6 +36,6 @@ pub loop-end-preserved : goal.loop-end-preserved
 loop-end-preserved g c =
     let on =
     goes_on (g.E.Engine.meaning c.args.engine.now) (latest c.loop-end.answers) (g.E.Engine.meaning c.loop-end.engine) c.loop-end.invariant.0
-    (g.E.Engine.laws c.args.engine.now c.requires.sound) c.next_answer-answer.result c.next_answer-answer.ensures.says (sym c.in-default.ensures.ends)
+    (g.E.Engine.laws c.args.engine.now c.requires.sound) c.next_answer-answer.result c.next_answer-answer.ensures.says (sym c.in_default.ensures.ends)
     (latest c.note.new.answers) c.note.ensures.noted (g.E.Engine.meaning c.next_answer-answer.new.engine) c.next_answer-answer.ensures.does in
     (on.0, c.next_answer-answer.ensures.stays)
