@@ -1,5 +1,5 @@
 -- A number of clauses beyond the number of words reads like any other such number.
-use Rattle.std.proofs.Common.{◌≡◌, ℕ, zero, suc, ◌<◌, min, Bool, true, false, cond, List, [], ◌∷◌, length, Ok, Err, refl, ap, ◌∙◌, arith}
+use Rattle.std.proofs.Common.{◌≡◌, ℕ, zero, suc, ◌<◌, min, Bool, true, false, cond, List, [], ◌∷◌, length, Ok, Err, refl, ap, arith}
 use Rattle.cnf.specs.Arranging.{Arrangement, joined_by}
 use Rattle.words.specs.Lexis.{Shape, name, number, end, is_zero}
 use Rattle.words.specs.Texts.{At}

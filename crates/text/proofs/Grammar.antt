@@ -1,14 +1,15 @@
 -- A text reads as a formula exactly when its words make that formula.
-use Rattle.std.proofs.Common.{◌≡◌, ℕ, zero, suc, ◌^◌, ◌<◌, ◌≤◌, min, Bool, true, false, cond, ◌||◌, eqb, ltb, List, [], ◌∷◌, map, length, Ok, Err, All, Result, sym, refl, ap, ◌∙◌, subst, ⊎_elim, arith}
-use Rattle.std.proofs.lemmas.Bool.{or_from, or_parts, cond-true, cond-false, ltb-false, le-ltb, cases_Bool}
+use Rattle.std.proofs.Common.{◌≡◌, ℕ, zero, suc, ◌^◌, ◌<◌, ◌≤◌, min, Bool, true, false, cond, ◌||◌, eqb, ltb, List, [], ◌∷◌, length, Ok, Err, All, sym, refl, ap, ◌∙◌, subst, arith}
+use Rattle.std.proofs.lemmas.Bool.{or_from, or_parts, cond-true, cond-false, ltb-false, le-ltb}
 use Rattle.std.proofs.lemmas.List.{length-map}
+use Rattle.std.proofs.lemmas.List.Elements.{All-head, All-tail}
 use Rattle.cnf.specs.declared.literals.Literal.{Literal}
 use Rattle.cnf.specs.declared.faults.ClauseFault.{ClauseFault}
 use Rattle.cnf.specs.declared.faults.ClauseFault.TheVariants.{OutOfRange, Repeated}
 use Rattle.cnf.specs.Literals.{earlier}
 use Rattle.cnf.specs.Order.{inserted}
 use Rattle.cnf.specs.Clauses.{Clause}
-use Rattle.cnf.specs.Arranging.{Arrangement, outside, names, joined_by, beyond, repeats, twice, inserted_all, arranged}
+use Rattle.cnf.specs.Arranging.{Arrangement, outside, names, joined_by, beyond, repeats, inserted_all, arranged}
 use Rattle.cnf.proofs.Arranging.{inserted_names}
 use Rattle.words.specs.Lexis.{Shape, name, number, end, natural, numeral, is_zero}
 use Rattle.words.specs.declared.lexis.Mode.TheVariants.{Fresh}
@@ -118,7 +119,7 @@ module _ (n v k : ℕ) (few : v ≤ 512) (seen d : Clause) (same : (x : ℕ) →
             first = g.3;
             same = g.2;
             behind = g.1;
-            told = λ t. t.1;
+            told = λ t. All-tail Told a more t;
           }
       pick false z e =
           let l = literal_of w in
@@ -134,7 +135,7 @@ module _ (n v k : ℕ) (few : v ≤ 512) (seen d : Clause) (same : (x : ℕ) →
             first = r.first;
             same = r.same;
             behind = r.behind;
-            told = λ t. r.told t.1;
+            told = λ t. r.told (All-tail Told a more t);
           }
 
 more_same : (l : Literal) (seen d : Clause) → ((x : ℕ) → names x d ≡ names x seen) → (x : ℕ) → names x (inserted earlier l d) ≡ names x (l ∷ seen)
@@ -174,7 +175,7 @@ none_left n v (a ∷ more) f told e = go a.word refl e
     go : (s : Shape) → a.word ≡ s → follows (moved (between v 0) s a.place) (λ t. reads n t more) ≡ Ok f → ReadClauses v 0 (a ∷ more) f
     go (name w) is e = absurd (no_formula _ f e)
     go (number w) is e = absurd (no_formula _ f e)
-    go end is e = absurd (subst ToldShape is told.0)
+    go end is e = absurd (subst ToldShape is (All-head Told a more told))
 
 clauses_read : (n v k : ℕ) → v ≤ 512 → (ws : List At) (f : Formula') → All Told ws → reads n (between v k) ws ≡ Ok f → ReadClauses v k ws f
 clauses_read n v zero few ws f told e = none_left n v ws f told e
@@ -214,7 +215,7 @@ name_read n s t test names numbers ends (a ∷ more) f told e = go a.word refl e
       where
         pick : (b : Bool) → test w ≡ b → follows (cond b (moves t nothing) (refuses (Word a.place))) (λ u. reads n u more) ≡ Ok f
             → (p : List ℕ) × (test p ≡ true) × Expected n t (name p) (a ∷ more) f
-        pick true h e = (w, h, record { rest = more; is = ap (λ (x : Shape). x ∷ shapes more) is; told = told.1; read = e })
+        pick true h e = (w, h, record { rest = more; is = ap (λ (x : Shape). x ∷ shapes more) is; told = All-tail Told a more told; read = e })
         pick false h e = absurd (no_formula _ f e)
 
 count_read : (n : ℕ) (ws : List At) (f : Formula') → All Told ws → reads n variables ws ≡ Ok f
@@ -231,7 +232,7 @@ count_read n (a ∷ more) f told e = go a.word refl e
         pick : (b : Bool) → natural w ≡ b
             → follows (cond b (moves (clauses (capped w)) (variable_count (capped w) a.place)) (refuses (Word a.place))) (λ t. reads n t more) ≡ Ok f
             → (v : List ℕ) × (natural v ≡ true) × Expected n (clauses (capped v)) (number v) (a ∷ more) f
-        pick true h e = (w, h, record { rest = more; is = ap (λ (s : Shape). s ∷ shapes more) is; told = told.1; read = e })
+        pick true h e = (w, h, record { rest = more; is = ap (λ (s : Shape). s ∷ shapes more) is; told = All-tail Told a more told; read = e })
         pick false h e = absurd (no_formula _ f e)
 
 body_read : (n v : ℕ) (ws : List At) (f : Formula') → All Told ws → reads n (clauses v) ws ≡ Ok f
@@ -254,7 +255,7 @@ body_read n v (a ∷ more) f told e = go a.word refl e
                 → (c : List ℕ) × (natural c ≡ true) × (v ≤ 512) × Expected n (between v (counted c)) (number c) (a ∷ more) f
             seen true l e = absurd (no_formula _ f e)
             seen false l e =
-                (w, h, ltb-false 512 v l, record { rest = more; is = ap (λ (s : Shape). s ∷ shapes more) is; told = told.1; read = e })
+                (w, h, ltb-false 512 v l, record { rest = more; is = ap (λ (s : Shape). s ∷ shapes more) is; told = All-tail Told a more told; read = e })
         pick false h many l e = absurd (no_formula _ f e)
 
 -- each clause has a word at least

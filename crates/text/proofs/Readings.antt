@@ -1,7 +1,8 @@
 -- What is read is in standard form.
-use Rattle.std.proofs.Common.{◌≡◌, ℕ, zero, suc, ◌<◌, ◌≤◌, min, Bool, true, false, cond, ltb, ◌⊎◌, List, [], ◌∷◌, length, Ok, Err, All, sym, refl, ap, ◌∙◌, subst, inl, inr, arith}
+use Rattle.std.proofs.Common.{◌≡◌, ℕ, zero, suc, ◌≤◌, min, Bool, true, false, cond, ltb, List, [], ◌∷◌, length, Ok, Err, All, sym, refl, subst, inl, inr, arith}
 use mathlib.Core.List.Memᴰ
 use Rattle.std.proofs.lemmas.Bool.{ltb-false}
+use Rattle.std.proofs.lemmas.List.Elements.{All-nil, All-cons}
 use Rattle.cnf.specs.declared.literals.Literal.{Literal}
 use Rattle.cnf.specs.declared.faults.ClauseFault.TheVariants.{OutOfRange, Repeated}
 use Rattle.cnf.specs.Literals.{earlier}
@@ -14,8 +15,8 @@ use Rattle.words.specs.Lexis.{Shape, name, number, end, natural, is_zero}
 use Rattle.words.specs.Texts.{At, words_of}
 use Rattle.text.specs.declared.faults.TextFault.{TextFault}
 use Rattle.text.specs.declared.faults.TextFault.TheVariants.{Word, Variables}
-use Rattle.text.specs.Formulas.{State, before, format, variables, clauses, between, inside, Item, nothing, variable_count, heading, clause, whole, Moved, refuses, moves, moved, closes, joins_clause, is_p, is_cnf, capped, counted, literal_of, Read, with_clause, goes_on, follows, reads, formula_of}
-use Rattle.text.specs.Round.{Standard, StandardRead}
+use Rattle.text.specs.Formulas.{State, before, format, variables, clauses, between, inside, Item, nothing, variable_count, heading, clause, whole, Moved, refuses, moves, moved, closes, joins_clause, is_p, is_cnf, capped, counted, literal_of, Read, with_clause, follows, reads, formula_of}
+use Rattle.text.specs.Round.{StandardRead}
 
 -- a clause so far is a clause
 abbrev Sound : (h : ℕ) → Arrangement → Type 0
@@ -99,7 +100,7 @@ Has v (Ok f) = (f.highest ≡ v) × All (IsClause (min v 512)) f.all
 Has v (Err fault) = Unit {0}
 
 with_has : (v : ℕ) (c : Clause) (r : Read) → IsClause (min v 512) c → Has v r → Has v (with_clause c r)
-with_has v c (Ok f) g h = (h.0, (g, h.1))
+with_has v c (Ok f) g h = (h.0, All-cons (IsClause (min v 512)) c f.all g h.1)
 with_has v c (Err fault) g h = tt
 
 follows_has : (v : ℕ) (m : Moved) (on : State → Read) → Keeps v m → ((t : State) → Over v t → Has v (on t)) → Has v (follows m on)
@@ -108,7 +109,7 @@ follows_has v (moves s nothing) on k h = h s k.0
 follows_has v (moves s (variable_count u place)) on k h = absurd k.1
 follows_has v (moves s (heading u)) on k h = absurd k.1
 follows_has v (moves s (clause c)) on k h = with_has v c (on s) k.1 (h s k.0)
-follows_has v (moves s (whole u)) on k h = (k.1, tt)
+follows_has v (moves s (whole u)) on k h = (k.1, All-nil (IsClause (min v 512)))
 
 reads_has : (n v : ℕ) (s : State) (ws : List At) → Over v s → Has v (reads n s ws)
 reads_has n v s [] o = follows_has v (moved s end n) _ (moved_keeps v s end n o) (λ t p. tt)

@@ -1,11 +1,12 @@
 -- A formula in standard form, once written, reads back as itself.
-use Rattle.std.proofs.Common.{◌≡◌, ℕ, suc, ◌+◌, ◌^◌, ◌<◌, ◌≤◌, min, Bool, true, false, cond, eqb, ltb, ◌⊎◌, List, [], ◌∷◌, ◌++◌, length, get_or, take, drop, Ok, Err, decimal, All, Result, sym, refl, ap, ◌∙◌, subst, inl, inr, append_assoc, arith}
+use Rattle.std.proofs.Common.{◌≡◌, ℕ, suc, ◌+◌, ◌^◌, ◌<◌, ◌≤◌, min, Bool, true, false, cond, eqb, ltb, List, [], ◌∷◌, ◌++◌, length, get_or, take, drop, Ok, Err, decimal, All, Result, sym, refl, ap, ◌∙◌, subst, inl, inr, append_assoc, arith}
 use mathlib.Core.List.Memᴰ
 use mathlib.Core.List.Memᴰ.{head as here}
 use mathlib.Core.List.Memᴰ.{tail as there}
 use Rattle.std.specs.List.{flat_map}
 use Rattle.std.proofs.lemmas.Bool.{cond-true, cond-false, or_from, ne_eqb, le-ltb}
 use Rattle.std.proofs.lemmas.List.{append-nil, take_at}
+use Rattle.std.proofs.lemmas.List.Elements.{All-nil, All-cons, All-head, All-tail}
 use Rattle.cnf.specs.declared.literals.Literal.{Literal}
 use Rattle.cnf.specs.Clauses.{Clause, ◌∈◌, Rising, Within, IsClause}
 use Rattle.cnf.specs.Arranging.{Arrangement, outside, names, joined_by}
@@ -14,7 +15,7 @@ use Rattle.words.specs.declared.lexis.Mode.{Mode}
 use Rattle.words.specs.declared.lexis.Mode.TheVariants.{Fresh, Within as InLine, Comment}
 use Rattle.words.specs.Lexis.{Shape, number, passes, natural, is_zero}
 use Rattle.words.specs.Texts.{At, words_from}
-use Rattle.words.proofs.Spoken.{Spelled, spoken_none, spoken_space, spoken_line, spoken_word, decimal_natural, decimal_value, decimal_spelled, minus_spelled, decimal_not_zero, minus_not_zero, decimal_no_minus}
+use Rattle.words.proofs.Spoken.{Solid, Spelled, spoken_none, spoken_space, spoken_line, spoken_word, decimal_natural, decimal_value, decimal_spelled, minus_spelled, decimal_not_zero, minus_not_zero, decimal_no_minus}
 use Rattle.lines.specs.Texts.{literal_text, literal_word, clause_line, formula_text}
 use Rattle.text.specs.declared.faults.TextFault.TheVariants.{Variables}
 use Rattle.text.specs.Formulas.{State, heading, variable_count, before, format, variables, clauses, between, inside, Moved, moves, moved, capped, counted, literal_of, Formula', Read, with_clause, follows, reads, formula_of}
@@ -95,7 +96,7 @@ number_line m r p w rest s =
 
 -- the word 0
 zero_spelled : Spelled (48 ∷ [])
-zero_spelled = record { some = omega arith; solid = (refl, tt); fresh = refl; within = refl; is_numeral = refl; is_number = refl }
+zero_spelled = record { some = omega arith; solid = All-cons Solid 48 [] refl (All-nil Solid); fresh = refl; within = refl; is_numeral = refl; is_number = refl }
 
 -- a literal above those before it joins them
 joins : (h : ℕ) (d : Clause) (l : Literal) (p : ℕ) → 1 ≤ l.variable → l.variable ≤ h
@@ -161,8 +162,8 @@ clauses_read n v [] p few g = ap (reads n (between v 0)) (spoken_none Fresh p)
 clauses_read n v (c ∷ cs) p few g =
     ap (λ (l : List ℕ). reads n (between v (suc (length cs))) (words_from Fresh p l)) (append_assoc (flat_map literal_word c) (48 ∷ 10 ∷ []) (flat_map clause_line cs))
     ∙ clause_reads n v (length cs) (between v (suc (length cs))) Fresh few tt p [] c (flat_map clause_line cs) (Ok (record { highest = v; all = cs })) (λ w q. refl)
-    (record { above = λ k l m o. absurd (Memᴰ.not-nil m); rising = g.0.rising; within = g.0.within })
-    (λ q. clauses_read n v cs q few g.1)
+    (record { above = λ k l m o. absurd (Memᴰ.not-nil m); rising = (All-head (IsClause v) c cs g).rising; within = (All-head (IsClause v) c cs g).within })
+    (λ q. clauses_read n v cs q few (All-tail (IsClause v) c cs g))
 
 -- the heading line
 module _ (n v c : ℕ) (few : v ≤ 512) (fits : c < 2 ^ 64) (rest : List ℕ) where
@@ -195,8 +196,8 @@ module _ (n v c : ℕ) (few : v ≤ 512) (fits : c < 2 ^ 64) (rest : List ℕ) w
       → reads n before (words_from Fresh 0 (112 ∷ 32 ∷ 99 ∷ 110 ∷ 102 ∷ 32 ∷ (decimal v ++ (32 ∷ (decimal c ++ (10 ∷ rest)))))) ≡ after
   heading_reads after then =
       let more = decimal v ++ (32 ∷ (decimal c ++ (10 ∷ rest))) in
-      ap (reads n before) (spoken_word Fresh 0 (112 ∷ []) 32 (99 ∷ 110 ∷ 102 ∷ 32 ∷ more) (omega arith) (refl, tt) refl refl)
-      ∙ ap (reads n format) (spoken_space 1 (99 ∷ 110 ∷ 102 ∷ 32 ∷ more) ∙ spoken_word InLine 2 (99 ∷ 110 ∷ 102 ∷ []) 32 more (omega arith) (refl, (refl, (refl, tt))) refl refl)
+      ap (reads n before) (spoken_word Fresh 0 (112 ∷ []) 32 (99 ∷ 110 ∷ 102 ∷ 32 ∷ more) (omega arith) (All-cons Solid 112 [] refl (All-nil Solid)) refl refl)
+      ∙ ap (reads n format) (spoken_space 1 (99 ∷ 110 ∷ 102 ∷ 32 ∷ more) ∙ spoken_word InLine 2 (99 ∷ 110 ∷ 102 ∷ []) 32 more (omega arith) (All-cons Solid 99 (110 ∷ 102 ∷ []) refl (All-cons Solid 110 (102 ∷ []) refl (All-cons Solid 102 [] refl (All-nil Solid)))) refl refl)
       ∙ ap (reads n variables) (spoken_space 5 more)
       ∙ variables_read 6 after then
 

@@ -1,7 +1,7 @@
 -- The words of a text come in order and hold just the bytes that are neither blank nor in a comment. Assumes nothing.
 use Rattle.std.proofs.Common.{◌≡◌, ℕ, zero, suc, ◌+◌, ◌<◌, ◌≤◌, Bool, true, false, cond, not, ◌&&◌, ◌||◌, eqb, leb, List, [], ◌∷◌, length, get_or, All, sym, refl, ap, ◌∙◌, ⊎_elim, one-add, arith}
 use Rattle.std.specs.List.{prefix_len}
-use Rattle.std.proofs.lemmas.List.Elements.{All-weaker}
+use Rattle.std.proofs.lemmas.List.Elements.{All-weaker, All-nil, All-cons, All-head, All-tail}
 use Rattle.std.proofs.lemmas.Bool.{cond-true, cond-false, cond_both, cases_Bool, cases_lt, cases_eq, eq-eqb, ne_eqb, eqb-true, le-leb, lt-leb, lt-ltb, le-ltb, and_from, and_left, and_right, or_parts, or_left, or_from, not_from_true, not_from_false, not-true, true≢false}
 use Rattle.words.specs.declared.lexis.Mode.{Mode}
 use Rattle.words.specs.declared.lexis.Mode.TheVariants.{Fresh, Within, Comment}
@@ -26,13 +26,13 @@ later q r ws h = All-weaker (From r) (From q) (λ a g. omega arith) ws
 
 places : (k : ℕ) (m : Mode) (p : ℕ) (bs : List ℕ) → All (From (p + k)) (words_past k m p bs)
 unfolding words_past
-places k m p [] = tt
+places k m p [] = All-nil (From (p + k))
 places (suc k) m p (b ∷ bs) = later (p + suc k) (suc p + k) (words_past k Within (suc p) bs) (omega arith) (places k Within (suc p) bs)
 places zero m p (b ∷ bs) =
     let n = prefix_len inner bs in
     cond_both (passes m b) _ _ (All (From (p + 0)))
     (λ passed. later (p + 0) (suc p + 0) (words_past 0 (after m b) (suc p) bs) (omega arith) (places 0 (after m b) (suc p) bs))
-    (λ stopped. (omega arith, later (p + 0) (suc p + n) (words_past n Within (suc p) bs) (omega arith) (places n Within (suc p) bs)))
+    (λ stopped. All-cons (From (p + 0)) _ _ (omega arith) (later (p + 0) (suc p + n) (words_past n Within (suc p) bs) (omega arith) (places n Within (suc p) bs)))
 
 ordered_past : (k : ℕ) (m : Mode) (p : ℕ) (bs : List ℕ) → Ordered (words_past k m p bs)
 unfolding words_past
@@ -46,8 +46,8 @@ ordered_past zero m p (b ∷ bs) =
 uncovered : (ws : List At) (j q : ℕ) → All (From q) ws → j < q → covered ws j ≡ false
 uncovered [] j q h l = refl
 uncovered (a ∷ ws) j q h l =
-    let far : q ≤ a.place = h.0 in
-    or_from _ _ (and_left _ _ (lt-leb a.place j (omega arith))) (uncovered ws j q h.1 l)
+    let far : q ≤ a.place = All-head (From q) a ws h in
+    or_from _ _ (and_left _ _ (lt-leb a.place j (omega arith))) (uncovered ws j q (All-tail (From q) a ws h) l)
 
 -- whether the byte b belongs to a comment, read in the mode m
 abbrev opens : Mode → ℕ → Bool

@@ -4,7 +4,7 @@ use Rattle.std.specs.List.{prefix_len}
 use Rattle.words.specs.declared.lexis.Mode.{Mode}
 use Rattle.words.specs.declared.lexis.Mode.TheVariants.{Fresh, Within}
 use Rattle.words.specs.Lexis.{inner, passes, after, shape}
-use Rattle.words.specs.Texts.{At, front, words_past, words_from, words_of}
+use Rattle.words.specs.Texts.{front, words_past, words_from, words_of}
 
 past_few : (k : ℕ) (m : Mode) (p : ℕ) (bs : List ℕ) → length (words_past k m p bs) ≤ length bs
 unfolding words_past

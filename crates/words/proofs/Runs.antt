@@ -1,6 +1,7 @@
 -- Each word stands in the text at its place. Assumes nothing.
 use Rattle.std.proofs.Common.{◌≡◌, ℕ, zero, suc, ◌+◌, ◌<◌, Bool, true, false, cond, List, [], ◌∷◌, length, get_or, take, drop, All, sym, refl, ap, ◌∙◌, ⊎_elim, add-one, one-add, arith}
 use Rattle.std.specs.List.{prefix_len}
+use Rattle.std.proofs.lemmas.List.Elements.{All-nil, All-cons}
 use Rattle.std.proofs.lemmas.List.{drop-drop, get_or-drop, length-take-le}
 use Rattle.std.proofs.lemmas.List.Sums.{prefix_len-le-length}
 use Rattle.std.proofs.lemmas.Bool.{cond-true, cond-false, cond_both, cases_Bool}
@@ -19,11 +20,11 @@ bytes_shape b bs = go (numeral (b ∷ bs))
     go false = refl
 
 front_solid : (bs : List ℕ) → All (λ b. inner b ≡ true) (front bs)
-front_solid [] = tt
+front_solid [] = All-nil _
 front_solid (b ∷ bs) =
     ⊎_elim
-    (λ e. rw (cond-true (inner b) (1 + prefix_len inner bs) 0 e ∙ one-add (prefix_len inner bs)) (e, front_solid bs))
-    (λ e. rw (cond-false (inner b) (1 + prefix_len inner bs) 0 e) tt)
+    (λ e. rw (cond-true (inner b) (1 + prefix_len inner bs) 0 e ∙ one-add (prefix_len inner bs)) (All-cons (λ x. inner x ≡ true) b (front bs) e (front_solid bs)))
+    (λ e. rw (cond-false (inner b) (1 + prefix_len inner bs) 0 e) (All-nil _))
     (cases_Bool (inner b))
 
 -- behind the front is a blank, or the end
@@ -55,18 +56,18 @@ word_stands : (text : List ℕ) (p b : ℕ) (bs : List ℕ) → drop p text ≡ 
 word_stands text p b bs e first =
     let n = prefix_len inner bs in
     let long = length_front bs in
-    stands_as text p (shape (b ∷ front bs)) (b ∷ front bs) (bytes_shape b (front bs)) refl (omega arith) (first, front_solid bs)
+    stands_as text p (shape (b ∷ front bs)) (b ∷ front bs) (bytes_shape b (front bs)) refl (omega arith) (All-cons (λ x. inner x ≡ true) b (front bs) first (front_solid bs))
     (ap (take (suc (length (front bs)))) e ∙ ap (λ k. b ∷ take k bs) long)
     (ap inner (sym (get_or-drop p text (suc (length (front bs))) 32) ∙ ap (λ l. get_or l (suc (length (front bs))) 32) e ∙ ap (λ k. get_or bs k 32) long) ∙ front_whole bs)
 
 stand_past : (text : List ℕ) (k : ℕ) (m : Mode) (p : ℕ) (bs : List ℕ) → drop p text ≡ bs → All (Stands text) (words_past k m p bs)
 unfolding words_past
-stand_past text k m p [] e = tt
+stand_past text k m p [] e = All-nil (Stands text)
 stand_past text (suc k) m p (b ∷ bs) e = stand_past text k Within (suc p) bs (drop_next text p b bs e)
 stand_past text zero m p (b ∷ bs) e =
     let next = drop_next text p b bs e in
     cond_both (passes m b) _ _ (All (Stands text)) (λ passed. stand_past text 0 (after m b) (suc p) bs next)
-    (λ stopped. (word_stands text p b bs e (stops_inner m b stopped), stand_past text (prefix_len inner bs) Within (suc p) bs next))
+    (λ stopped. All-cons (Stands text) _ _ (word_stands text p b bs e (stops_inner m b stopped)) (stand_past text (prefix_len inner bs) Within (suc p) bs next))
 
 pub stand : (text : List ℕ) (m : Mode) (p : ℕ) → All (Stands text) (words_from m p (drop p text))
 unfolding words_from

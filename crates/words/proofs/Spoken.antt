@@ -4,6 +4,7 @@ use Rattle.std.specs.Int.{IsInRange}
 use Rattle.std.specs.List.{prefix_len}
 use Rattle.std.specs.Str.{all_ascii_digits}
 use Rattle.std.proofs.lemmas.List.{take_at, drop_at}
+use Rattle.std.proofs.lemmas.List.Elements.{All-nil, All-cons, All-head, All-tail}
 use Rattle.std.proofs.lemmas.Bool.{cond-true, cond-false, le-leb, ne_eqb, and_from, and_right, and_parts, or_left, leb-true, false≢true}
 use Rattle.std.proofs.lemmas.Bool.Decides.{nat_tests}
 use Rattle.std.proofs.lemmas.Str.Parse.{tells_all_ascii_digits}
@@ -38,14 +39,14 @@ Solid b = (inner b ≡ true)
 
 leading_word : (w : List ℕ) (s : ℕ) (rest : List ℕ) → All Solid w → inner s ≡ false → prefix_len inner (w ++ s ∷ rest) ≡ length w
 leading_word [] s rest h e = cond-false _ _ _ e
-leading_word (b ∷ w) s rest h e = cond-true _ _ _ h.0 ∙ one-add _ ∙ ap suc (leading_word w s rest h.1 e)
+leading_word (b ∷ w) s rest h e = cond-true _ _ _ (All-head Solid b w h) ∙ one-add _ ∙ ap suc (leading_word w s rest (All-tail Solid b w h) e)
 
 -- a word with a blank behind it is the next word
 pub spoken_word : (m : Mode) (p : ℕ) (w : List ℕ) (s : ℕ) (rest : List ℕ) → 0 < length w → All Solid w → passes m (get_or w 0 0) ≡ false → inner s ≡ false → words_from m p (w ++ s ∷ rest) ≡ record { word = shape w; place = p } ∷ words_from Within (p + length w) (s ∷ rest)
 spoken_word m p [] s rest some solid first white = absurd (omega arith)
 spoken_word m p (b ∷ w) s rest some solid first white =
     let bs = w ++ s ∷ rest in
-    let long : prefix_len inner bs ≡ length w = leading_word w s rest solid.1 white in
+    let long : prefix_len inner bs ≡ length w = leading_word w s rest (All-tail Solid b w solid) white in
     let same : suc p + length w ≡ p + suc (length w) = omega arith in
     from_word m p b bs first
     ∙ ap (λ k. record { word = shape (b ∷ take k bs); place = p } ∷ words_from Within (suc p + k) (drop k bs)) long
@@ -66,8 +67,8 @@ solid_digit : (b : ℕ) → IsInRange 48 57 b → inner b ≡ true
 solid_digit b h = grind (arith, nat_tests)
 
 solid_digits : (ds : List ℕ) → all_ascii_digits ds ≡ true → All Solid ds
-solid_digits [] h = tt
-solid_digits (b ∷ bs) h = let p = tells_all_ascii_digits.parts b bs h in (solid_digit b p.0, solid_digits bs p.1)
+solid_digits [] h = All-nil Solid
+solid_digits (b ∷ bs) h = let p = tells_all_ascii_digits.parts b bs h in All-cons Solid b bs (solid_digit b p.0) (solid_digits bs p.1)
 
 plain_first : (b : ℕ) (bs : List ℕ) → plain (b ∷ bs) ≡ true → IsInRange 49 57 b
 plain_first b bs h =
@@ -100,7 +101,7 @@ spelled_digits (b ∷ bs) h n =
 spelled_minus : (ds : List ℕ) → all_ascii_digits ds ≡ true → plain ds ≡ true → Spelled (45 ∷ ds)
 spelled_minus ds h p = record {
   some = omega arith;
-  solid = (refl, solid_digits ds h);
+  solid = All-cons Solid 45 ds refl (solid_digits ds h);
   fresh = refl;
   within = refl;
   is_numeral = p;

@@ -1,7 +1,7 @@
-use Rattle.std.proofs.Common.{◌≡◌, ◌-◌, ◌<◌, [], Ok, sym, refl, ap, ◌∙◌, arith}
+use Rattle.std.proofs.Common.{◌-◌, ◌<◌, sym, ap, ◌∙◌, arith}
 use Rattle.words.specs.Lexis.{number}
 use Rattle.words.specs.Reading.{shape_of}
-use Rattle.text.specs.Formulas.{inside, between, moved}
+use Rattle.text.specs.Formulas.{moved}
 use Rattle.text.specs.Readers.{standing, state_of, settled}
 use Rattle.cnf.specs.Drafts.{outcome}
 use Rattle.text.proofs.Moves.{begins, begins_settled}

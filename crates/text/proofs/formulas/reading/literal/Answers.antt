@@ -1,7 +1,6 @@
 use Rattle.std.proofs.Common.{◌≡◌, true, false, eqb, get_or, drop, sym, ap, ◌∙◌, arith, ltb-false}
 use Rattle.std.proofs.lemmas.Bool.{cond-true, eq-eqb}
 use Rattle.std.proofs.lemmas.List.{take_rest}
-use Rattle.cnf.specs.declared.literals.Literal.{Literal}
 use Rattle.text.specs.Formulas.{capped}
 use Rattle.text.proofs.formulas.reading.literal.Goals as goal
 
