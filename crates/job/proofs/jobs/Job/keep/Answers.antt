@@ -1,6 +1,6 @@
-use Rattle.std.proofs.Common.{◌≡◌, ℕ, ◌-◌, get_or, set, refl, ap, ◌∙◌, arith}
+use Rattle.std.proofs.Common.{◌-◌, get_or, refl, ap, arith}
 use Rattle.trial.proofs.Members.{get_d_in}
-use Rattle.job.specs.View.{View, blank_row, with_rows}
+use Rattle.job.specs.View.{View, blank_row}
 use Rattle.job.specs.Seen.{view}
 use Rattle.job.specs.CheckLists.{kept_row}
 use Rattle.job.proofs.Keeping.{sound}

@@ -1,4 +1,4 @@
-use Rattle.std.proofs.Common.{◌≡◌, ℕ, ◌+◌, true, false, sym, refl, ap, ◌∙◌, arith}
+use Rattle.std.proofs.Common.{ℕ, ◌+◌, true, false, sym, ap, ◌∙◌, arith}
 use Rattle.drup.specs.Reading.{marks_of}
 use Rattle.job.specs.View.{text_in, texts, marks}
 use Rattle.job.specs.Seen.{view}

@@ -1,4 +1,4 @@
-use Rattle.std.proofs.Common.{◌≡◌, ℕ, ◌+◌, ◌-◌, ◌*◌, List, [], ◌∷◌, length, sym, ap, ◌∙◌, subst, arith}
+use Rattle.std.proofs.Common.{◌+◌, ◌-◌, ◌*◌, [], ◌∷◌, length, ap, ◌∙◌, arith}
 use Rattle.drup.specs.Backward.{gathered}
 use Rattle.engine.specs.Meaning.{text_of}
 use Rattle.trial.specs.Noted.{latest}
