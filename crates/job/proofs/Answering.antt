@@ -1,6 +1,6 @@
 -- What a call answers, by the tests that its code makes.
-use Rattle.std.proofs.Common.{◌≡◌, ℕ, zero, suc, ◌+◌, ◌-◌, ◌<◌, ◌≤◌, min, Bool, true, false, cond, eqb, ltb, leb, List, [], length, Ok, Err, Result, sym, refl, ap, ◌∙◌, subst, arith}
-use Rattle.std.proofs.lemmas.Bool.{lt-ltb, le-ltb, eq-eqb, ne_eqb, or_parts, leb-false, ltb-false}
+use Rattle.std.proofs.Common.{◌≡◌, ℕ, zero, suc, ◌+◌, ◌-◌, ◌<◌, ◌≤◌, min, Bool, true, false, cond, ltb, leb, List, [], length, Ok, Err, Result, sym, refl, ap, ◌∙◌, subst, arith}
+use Rattle.std.proofs.lemmas.Bool.{lt-ltb, le-ltb, ne_eqb, or_parts, leb-false, ltb-false}
 use Rattle.cnf.specs.declared.literals.Literal.{Literal}
 use Rattle.cnf.specs.declared.faults.ClauseFault.TheVariants.{OutOfRange, Repeated}
 use Rattle.cnf.specs.Clauses.{Clause}
@@ -9,10 +9,9 @@ use Rattle.cnf.specs.Arranging.{Arrangement, beyond, twice, in_range_until, new_
 use Rattle.cnf.proofs.Arranging.{arrangement_clause}
 use Rattle.drup.specs.History.{ended}
 use Rattle.job.specs.declared.faults.JobFault.{JobFault}
-use Rattle.job.specs.declared.faults.JobFault.TheVariants.{Clause as Faulty, Begun, Ended, Full, NoneLive, NoStep}
+use Rattle.job.specs.declared.faults.JobFault.TheVariants.{Begun, Ended, Full, NoneLive}
 use Rattle.job.specs.View.{View}
 use Rattle.job.specs.History.{steps_of}
-use Rattle.job.specs.Sound.{Sound}
 use Rattle.job.specs.Calls.{with_clause, is_full, clause_answer, lemma_answer, copy_in, found_or, strike_answer, last_step, withdraw_answer}
 use Rattle.job.proofs.Standing.{clause_ascending}
 

@@ -1,5 +1,5 @@
 -- What a check needs of a sound job.
-use Rattle.std.proofs.Common.{◌≡◌, ℕ, zero, suc, ◌+◌, ◌-◌, ◌*◌, ◌<◌, ◌≤◌, Bool, true, false, not, eqb, List, [], ◌∷◌, length, get_or, sym, refl, ap, ◌∙◌, subst, arith}
+use Rattle.std.proofs.Common.{◌≡◌, ℕ, zero, suc, ◌<◌, ◌≤◌, true, not, eqb, List, length, get_or, refl, arith}
 use Rattle.cnf.specs.Clauses.{Clause, IsClause, literals}
 use Rattle.drup.specs.History.{Step, table, text, next_number, is_struck}
 use Rattle.drup.specs.Laws.{StrikesLive}

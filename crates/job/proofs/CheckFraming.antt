@@ -1,5 +1,5 @@
 -- What a check leaves of a job.
-use Rattle.std.proofs.Common.{◌≡◌, ℕ, zero, suc, ◌+◌, ◌-◌, ◌<◌, ◌≤◌, Bool, true, false, List, [], ◌∷◌, ◌++◌, map, length, get_or, take, drop, set, replicate, sym, refl, ap, ◌∙◌, subst, arith}
+use Rattle.std.proofs.Common.{◌≡◌, ℕ, zero, suc, ◌+◌, ◌-◌, ◌<◌, ◌≤◌, List, [], ◌∷◌, ◌++◌, map, length, get_or, take, drop, set, replicate, sym, refl, ap, ◌∙◌, subst, arith}
 use mathlib.Core.List.Memᴰ.{head as here}
 use mathlib.Core.List.Memᴰ.{tail as there}
 use lib.ListN.{length-map}
@@ -8,12 +8,10 @@ use Rattle.std.proofs.lemmas.List.Edits.{length-paste}
 use Rattle.std.proofs.lemmas.List.{length-replicate}
 use Rattle.cnf.specs.declared.literals.Literal.{Literal}
 use Rattle.cnf.specs.Clauses.{Clause, ◌∈◌}
-use Rattle.drup.specs.Forward.{Machine}
 use Rattle.engine.specs.Meaning.{Meaning}
 use Rattle.job.specs.declared.rows.ClauseRow.{ClauseRow}
-use Rattle.job.specs.declared.rows.StepRow.{StepRow}
 use Rattle.job.specs.View.{View, blank_row, clause_at, texts_of, text_in, texts, with_rows, with_arcs, bare}
-use Rattle.job.specs.History.{down_from, steps_from, inputs_of, before, steps_of, machine_of}
+use Rattle.job.specs.History.{down_from, steps_from, inputs_of, before, machine_of}
 use Rattle.job.specs.CheckLists.{kept_row, mark_all, unmarked, row_start, recorded, Framed}
 use Rattle.job.specs.CheckShowing.{Holds}
 use Rattle.job.specs.CheckWalking.{Roomy}

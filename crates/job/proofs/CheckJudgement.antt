@@ -1,5 +1,5 @@
 -- The trial of a kept lemma: what its parts ask for.
-use Rattle.std.proofs.Common.{◌≡◌, ℕ, zero, suc, ◌+◌, ◌-◌, ◌*◌, ◌<◌, ◌≤◌, List, [], ◌∷◌, map, length, get_or, sym, refl, ap, ◌∙◌, subst, add-one, arith}
+use Rattle.std.proofs.Common.{◌≡◌, ℕ, suc, ◌+◌, ◌-◌, ◌*◌, ◌<◌, ◌≤◌, List, [], ◌∷◌, map, length, get_or, sym, ap, ◌∙◌, subst, add-one, arith}
 use mathlib.Core.List.Memᴰ
 use lib.Seq.{paste}
 use Rattle.cnf.specs.declared.literals.Literal.{Literal}
@@ -8,16 +8,15 @@ use Rattle.cnf.specs.Clauses.{Clause, ◌∈◌, Within, IsClause}
 use Rattle.cnf.specs.Arranging.{beyond, twice}
 use Rattle.cnf.proofs.Arranging.{all_cons, clause_beyond, clause_twice}
 use Rattle.drup.specs.declared.Forced.{Forced}
-use Rattle.drup.specs.Backward.{RightOver, ConflictOver, gathered, asked}
+use Rattle.drup.specs.Backward.{RightOver, gathered, asked}
 use Rattle.drup.proofs.Short.{asked_few}
 use Rattle.engine.specs.Meaning.{Meaning, On, text_of, Consistent, WellFormed}
 use Rattle.engine.specs.Meaning.{text_in as textFrom}
 use Rattle.trial.specs.declared.ends.TrialEnd.{TrialEnd}
 use Rattle.trial.specs.declared.ends.TrialEnd.TheVariants.{Conflict, Nothing}
 use Rattle.trial.specs.Trying.{counted_by, EndsRight}
-use Rattle.trial.specs.Numbered.{Numbered}
 use Rattle.trial.specs.Gathering.{AllWithin, AllKnown}
-use Rattle.trial.proofs.Conflicts.{clauses_within, answers_known, row_alive, row_few}
+use Rattle.trial.proofs.Conflicts.{clauses_within, answers_known, row_few}
 use Rattle.job.specs.declared.jobs.reports.Tally.{Tally}
 use Rattle.job.specs.View.{View, text_in, texts, with_rows, with_arcs}
 use Rattle.job.specs.CheckLists.{mark_all, row_start, recorded}

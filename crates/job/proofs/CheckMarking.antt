@@ -1,11 +1,11 @@
 -- Marks in the rows, and the marks of the model.
-use Rattle.std.proofs.Common.{◌≡◌, ℕ, zero, suc, ◌+◌, ◌-◌, ◌<◌, ◌≤◌, Bool, true, false, ◌||◌, eqb, List, [], ◌∷◌, map, length, get_or, take, set, sym, refl, ap, ◌∙◌, subst, arith, length-set}
+use Rattle.std.proofs.Common.{◌≡◌, ℕ, zero, suc, ◌-◌, ◌<◌, ◌≤◌, Bool, true, false, ◌||◌, eqb, List, [], ◌∷◌, map, length, get_or, take, set, refl, ap, ◌∙◌, arith, length-set}
 use mathlib.Core.List.Memᴰ.{head as here}
 use mathlib.Core.List.Memᴰ.{tail as there}
 use lib.ListN.{length-map}
 use Rattle.std.proofs.lemmas.List.{length-take-le}
 use Rattle.cnf.specs.Clauses.{◌∈◌}
-use Rattle.drup.specs.Marks.{Marks, has, marked}
+use Rattle.drup.specs.Marks.{has, marked}
 use Rattle.drup.specs.Reading.{marks_of}
 use Rattle.drup.proofs.Reading.{mark_set}
 use Rattle.job.specs.declared.rows.ClauseRow.{ClauseRow}

@@ -1,5 +1,5 @@
 -- The way back over the steps: what the loop keeps.
-use Rattle.std.proofs.Common.{◌≡◌, ℕ, zero, suc, ◌+◌, ◌-◌, ◌*◌, ◌<◌, ◌≤◌, min, Bool, true, false, List, [], ◌∷◌, map, length, get_or, set, replicate, sym, refl, ap, ◌∙◌, subst, true≢false, arith}
+use Rattle.std.proofs.Common.{◌≡◌, ℕ, suc, ◌+◌, ◌-◌, ◌*◌, ◌<◌, ◌≤◌, min, Bool, true, false, List, [], ◌∷◌, map, length, get_or, sym, refl, ap, ◌∙◌, subst, arith}
 use mathlib.Core.Bool.{false≢true}
 use mathlib.Core.List.Memᴰ
 use lib.Seq.{paste}
@@ -8,11 +8,10 @@ use Rattle.cnf.specs.declared.literals.Literal.{Literal}
 use Rattle.cnf.specs.Literals.{complement}
 use Rattle.cnf.specs.Clauses.{Clause, ◌∈◌}
 use Rattle.cnf.proofs.Arranging.{all_cons}
-use Rattle.drup.specs.History.{Step, learned, struck, table, next_number, text, Live}
+use Rattle.drup.specs.History.{Step, learned, table, next_number, text, Live}
 use Rattle.drup.specs.Marks.{Marks, marked}
-use Rattle.drup.specs.Forward.{Machine}
-use Rattle.drup.specs.Backward.{ConflictOver, NothingOver, gathered, Row, arcs, conflict_row, Verdict, with_row, asked, report, accepted, fails}
-use Rattle.drup.specs.Box.{Checks, Stands, empty_kept}
+use Rattle.drup.specs.Backward.{ConflictOver, NothingOver, gathered, Row, arcs, conflict_row, asked, fails}
+use Rattle.drup.specs.Box.{Checks, Stands}
 use Rattle.drup.specs.Reading.{marks_of}
 use Rattle.drup.proofs.Short.{asked_few}
 use Rattle.drup.proofs.Going.{at_first, past_strike, past_lemma, past_conflict, at_nothing, at_end}
@@ -23,17 +22,17 @@ use Rattle.job.specs.declared.rows.StepRow.{StepRow}
 use Rattle.job.specs.declared.rows.StepRow.TheVariants.{Lemma, Strike}
 use Rattle.job.specs.declared.jobs.reports.Tally.{Tally}
 use Rattle.job.specs.View.{View, blank_row, blank_step, text_in, texts, marks}
-use Rattle.job.specs.History.{inputs_of, before, steps_of, machine_of}
+use Rattle.job.specs.History.{inputs_of, before, machine_of}
 use Rattle.job.specs.CheckLists.{Framed, row_start, arcs_of, recorded}
 use Rattle.job.specs.CheckShowing.{Shows, Holds}
 use Rattle.job.specs.CheckJudging.{Raisable, Passed, Failed}
-use Rattle.job.specs.CheckWalking.{BackLemma, Back, Roomy, Ready, verdict_in, Judges, TurnsDown, Walked}
+use Rattle.job.specs.CheckWalking.{BackLemma, Back, Roomy, Ready, verdict_in, Judges, TurnsDown}
 use Rattle.job.proofs.Histories.{length_steps}
 use Rattle.job.proofs.CheckFit.{Fit}
 use Rattle.job.proofs.CheckShown.{shown_conflict, shown_nothing, shown_gathered}
 use Rattle.job.proofs.CheckJudgement.{on_within, holds_after}
 use Rattle.job.proofs.CheckStepping.{as_strike, as_lemma, its_number, its_range, shows_off, holds_off, shows_on, holds_on}
-use Rattle.job.proofs.CheckFraming.{texts_framed, rows_framed, clauses_framed, taken_framed, steps_framed, start_framed, rooms_framed, framed_recorded, framed_self, holds_framed, inputs_framed, before_framed}
+use Rattle.job.proofs.CheckFraming.{texts_framed, rows_framed, clauses_framed, steps_framed, start_framed, framed_recorded, framed_self, holds_framed, inputs_framed, before_framed}
 use Rattle.job.proofs.CheckMarking.{mark_at, all_marked_lem}
 
 -- i steps are left

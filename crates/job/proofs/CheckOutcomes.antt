@@ -1,14 +1,14 @@
 -- From the lists after the way back to the model's verdict.
-use Rattle.std.proofs.Common.{◌≡◌, ℕ, zero, suc, ◌+◌, ◌-◌, ◌*◌, ◌<◌, ◌≤◌, min, Bool, true, false, List, [], ◌∷◌, map, length, get_or, replicate, sym, refl, ap, ◌∙◌, subst, mul-le-mul, arith}
+use Rattle.std.proofs.Common.{◌≡◌, ℕ, suc, ◌-◌, ◌*◌, ◌<◌, ◌≤◌, min, true, List, [], ◌∷◌, length, replicate, sym, refl, ap, ◌∙◌, subst, mul-le-mul, arith}
 use lib.Seq.{paste}
 use Rattle.cnf.specs.Clauses.{Clause, ◌∈◌}
-use Rattle.drup.specs.History.{Step, learned, struck, table, next_number, lemmas, ended}
+use Rattle.drup.specs.History.{Step, learned, struck, table, lemmas, ended}
 use Rattle.drup.specs.Marks.{sieved}
 use Rattle.drup.specs.Forward.{Machine}
 use Rattle.drup.specs.Backward.{Row, Verdict, report, accepted, fails}
 use Rattle.drup.specs.Backward.{Report as Told}
 use Rattle.drup.specs.Box.{arcs_needed, Checks}
-use Rattle.drup.specs.Agreement.{Certified, RowOf}
+use Rattle.drup.specs.Agreement.{Certified}
 use Rattle.drup.specs.Reading.{marks_of, numbers_at, verdict_at}
 use Rattle.drup.proofs.Trimmed.{certified, reported}
 use Rattle.drup.proofs.Visited.{fails_at}
@@ -18,7 +18,7 @@ use Rattle.job.specs.declared.jobs.reports.Tally.{Tally}
 use Rattle.job.specs.declared.jobs.reports.Report.{Report}
 use Rattle.job.specs.View.{View, text_in, texts, marks}
 use Rattle.job.specs.History.{inputs_of, steps_of, machine_of}
-use Rattle.job.specs.CheckLists.{row_start, arcs_of, Framed}
+use Rattle.job.specs.CheckLists.{arcs_of, Framed}
 use Rattle.job.specs.CheckWalking.{Roomy, verdict_in, Judges, TurnsDown}
 use Rattle.job.specs.Checking.{told, Accepts}
 use Rattle.job.proofs.Histories.{length_down}

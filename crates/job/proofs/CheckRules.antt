@@ -1,5 +1,5 @@
 -- The rules of a check.
-use Rattle.std.proofs.Common.{◌≡◌, ℕ, zero, suc, ◌+◌, ◌-◌, ◌*◌, ◌<◌, ◌≤◌, Bool, true, false, cond, not, ◌||◌, eqb, ltb, leb, List, [], ◌∷◌, length, get_or, sym, refl, ap, ◌∙◌, subst, add-one, arith}
+use Rattle.std.proofs.Common.{◌≡◌, ℕ, suc, ◌+◌, ◌-◌, ◌*◌, ◌<◌, ◌≤◌, true, false, ◌||◌, ltb, List, [], ◌∷◌, length, sym, refl, ap, ◌∙◌, add-one, arith}
 use Rattle.cnf.specs.Clauses.{Clause, literals}
 use Rattle.drup.specs.History.{Step, learned, struck, table, lemmas, ended}
 use Rattle.drup.specs.Box.{too_small, check_refused}

@@ -1,9 +1,6 @@
 -- From an engine that shows a history to the model, and one step back.
-use Rattle.std.proofs.Common.{◌≡◌, ℕ, zero, suc, ◌+◌, ◌-◌, ◌<◌, ◌≤◌, Bool, true, false, cond, not, ◌||◌, eqb, ltb, List, [], ◌∷◌, map, length, get_or, set, None, sym, refl, ap, ◌∙◌, subst, inl, inr, true≢false, arith, length-set, get_or-set_other, get_or-set_same}
+use Rattle.std.proofs.Common.{◌≡◌, ℕ, zero, suc, ◌-◌, ◌<◌, ◌≤◌, Bool, true, false, ◌||◌, eqb, List, [], ◌∷◌, length, get_or, set, None, sym, refl, ap, ◌∙◌, subst, inl, inr, true≢false, arith, length-set, get_or-set_other, get_or-set_same}
 use mathlib.Core.Bool.{false≢true}
-use mathlib.Core.List.Memᴰ.{cases_cons as in-cons}
-use mathlib.Core.List.Memᴰ.{head as here}
-use mathlib.Core.List.Memᴰ.{tail as there}
 use Rattle.cnf.specs.declared.literals.Literal.{Literal}
 use Rattle.drup.specs.declared.Forced.{Forced as Entry}
 use Rattle.cnf.specs.Clauses.{Clause, ◌∈◌}
@@ -13,7 +10,7 @@ use Rattle.drup.specs.Backward.{RightOver, ConflictOver, Conflict, NothingOver, 
 use Rattle.std.proofs.lemmas.Bool.{eqb-false, ne_eqb, eq-eqb, eqb-true, cases_Bool, le-ltb, or_parts}
 use Rattle.drup.proofs.Transfer.{conflict_to, nothing_to, gathered_to}
 use Rattle.drup.proofs.Numbers.{text_older}
-use Rattle.engine.specs.Meaning.{Meaning, On, is_on, mark_in, text_of, with_mark, no_text, no_on, no_off}
+use Rattle.engine.specs.Meaning.{Meaning, On, is_on, mark_in, text_of, with_mark, no_on, no_off}
 use Rattle.job.specs.CheckShowing.{Shows}
 
 module _ (m : Meaning) (inputs : List Clause) (steps : List Step) (s : Shows m inputs steps) (assumed : List Literal) where

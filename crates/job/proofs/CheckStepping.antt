@@ -1,15 +1,15 @@
 -- The steps of a job, one by one.
-use Rattle.std.proofs.Common.{◌≡◌, ℕ, zero, suc, ◌+◌, ◌-◌, ◌<◌, ◌≤◌, Bool, true, false, List, [], ◌∷◌, map, length, get_or, set, sym, refl, ap, ◌∙◌, subst, inl, inr, arith}
+use Rattle.std.proofs.Common.{◌≡◌, ℕ, zero, suc, ◌<◌, ◌≤◌, true, false, List, [], ◌∷◌, length, get_or, sym, ap, subst, inl, inr, arith}
 use Rattle.cnf.specs.Clauses.{Clause}
 use Rattle.drup.specs.History.{Step, learned, struck, table, next_number, Live}
 use Rattle.drup.specs.Laws.{StrikesLive}
 use Rattle.drup.proofs.Numbers.{at_most}
-use Rattle.engine.specs.Meaning.{Meaning, On, with_mark}
+use Rattle.engine.specs.Meaning.{Meaning, with_mark}
 use Rattle.job.specs.declared.rows.StepRow.{StepRow}
 use Rattle.job.specs.declared.rows.StepRow.TheVariants.{Lemma, Strike}
 use Rattle.job.specs.CheckShowing.{Shows, Holds}
 use Rattle.job.specs.View.{View, blank_step, text_in, texts}
-use Rattle.job.specs.History.{down_from, step_of, steps_from, inputs_of, before}
+use Rattle.job.specs.History.{step_of, steps_from, inputs_of, before}
 use Rattle.job.proofs.CheckFit.{NamedIn, Fit}
 use Rattle.job.proofs.Histories.{length_down}
 use Rattle.job.proofs.CheckShown.{back_strike, back_lemma}

@@ -1,19 +1,18 @@
 -- Filling the engine, turning on what is live, and turning all off.
-use Rattle.std.proofs.Common.{◌≡◌, ℕ, zero, suc, ◌+◌, ◌-◌, ◌<◌, ◌≤◌, Bool, true, false, cond, not, ◌||◌, eqb, ltb, leb, List, [], ◌∷◌, ◌++◌, map, length, get_or, take, drop, set, replicate, Some, None, Option, sym, refl, ap, ◌∙◌, subst, inl, inr, true≢false, add-one, arith, length-append, length-set, get_or-set_other, get_or-set_same}
+use Rattle.std.proofs.Common.{◌≡◌, ℕ, zero, suc, ◌+◌, ◌-◌, ◌<◌, ◌≤◌, Bool, true, false, not, eqb, ltb, List, [], ◌∷◌, ◌++◌, length, get_or, take, set, replicate, Some, None, sym, refl, ap, ◌∙◌, subst, inl, inr, add-one, arith, length-set, get_or-set_other, get_or-set_same}
 use mathlib.Core.Bool.{false≢true}
-use lib.ListN.{length-map}
 use Rattle.std.proofs.lemmas.List.{take_more, take_all, set-get_or, ext_get_or, length-replicate, length-take-le, length_push}
-use Rattle.std.proofs.lemmas.Bool.{cases_Bool, ne_eqb, le-ltb, lt-leb, or_from, ltb-true, ltb-false, not-true}
+use Rattle.std.proofs.lemmas.Bool.{cases_Bool, ne_eqb, le-ltb, lt-leb, ltb-true, ltb-false, not-true}
 use Rattle.cnf.specs.Clauses.{Clause, IsClause, literals}
-use Rattle.cnf.specs.Arranging.{beyond, twice, arranged}
+use Rattle.cnf.specs.Arranging.{arranged}
 use Rattle.cnf.proofs.Arranging.{clause_beyond, clause_twice, clause_arranged}
-use Rattle.drup.specs.History.{Step, table, text, is_struck, Live}
+use Rattle.drup.specs.History.{is_struck, Live}
 use Rattle.drup.proofs.Numbers.{at_most}
-use Rattle.engine.specs.Meaning.{Meaning, On, is_on, mark_in, with_on, with_mark, with_text, cleared, no_text, no_put, no_on, no_off, Rule, rule, first_broken}
+use Rattle.engine.specs.Meaning.{Meaning, On, is_on, mark_in, with_on, with_mark, with_text, no_text, no_put, no_on, no_off, rule, first_broken}
 use Rattle.engine.specs.Meaning.{text_in as textFrom}
 use Rattle.engine.specs.declared.faults.EngineFault.{EngineFault}
 use Rattle.engine.specs.declared.faults.EngineFault.TheVariants.{TrialOpen, NoSuchText, AlreadyOn}
-use Rattle.engine.proofs.Refusing.{off_done, on_done}
+use Rattle.engine.proofs.Refusing.{off_done}
 use Rattle.trial.proofs.Allowed.{has_text, off_allowed}
 use Rattle.job.specs.View.{View, blank_row, text_in, texts}
 use Rattle.job.specs.History.{down_from, inputs_of, steps_of}

@@ -1,20 +1,20 @@
 -- The check as a whole: its parts put together.
-use Rattle.std.proofs.Common.{◌≡◌, ℕ, zero, suc, ◌+◌, ◌-◌, ◌<◌, ◌≤◌, Bool, true, false, cond, ◌||◌, eqb, List, [], ◌∷◌, ◌++◌, map, length, get_or, take, replicate, sym, refl, ap, ◌∙◌, subst, arith}
+use Rattle.std.proofs.Common.{◌≡◌, ℕ, zero, suc, ◌≤◌, Bool, true, false, ◌||◌, eqb, List, [], ◌∷◌, length, replicate, sym, refl, ap, ◌∙◌, subst, arith}
 use mathlib.Core.Bool.{false≢true}
 use mathlib.Core.List.Memᴰ
 use Rattle.cnf.specs.Clauses.{Clause, ◌∈◌}
 use Rattle.cnf.proofs.Arranging.{all_cons}
 use Rattle.drup.specs.History.{Step, learned, struck, table, ended}
-use Rattle.drup.specs.Marks.{Marks, lone, marked}
+use Rattle.drup.specs.Marks.{lone, marked}
 use Rattle.drup.specs.Reading.{marks_of}
 use Rattle.drup.proofs.Reading.{none_marked}
 use Rattle.engine.specs.Meaning.{Meaning, with_on}
 use Rattle.job.specs.declared.rows.ClauseRow.{ClauseRow}
 use Rattle.job.specs.declared.jobs.reports.Tally.{Tally}
-use Rattle.job.specs.View.{View, texts, marks, with_rows, with_arcs, with_judged}
-use Rattle.job.specs.History.{inputs_of, steps_of, machine_of}
-use Rattle.job.specs.CheckLists.{mark_all, unmarked, Framed}
-use Rattle.job.specs.CheckShowing.{Shows, Holds}
+use Rattle.job.specs.View.{View, texts, marks, with_judged}
+use Rattle.job.specs.History.{inputs_of, steps_of}
+use Rattle.job.specs.CheckLists.{unmarked, Framed}
+use Rattle.job.specs.CheckShowing.{Holds}
 use Rattle.job.specs.CheckFrame.{filled, Large, Lit}
 use Rattle.job.specs.CheckWalking.{Roomy, Ready, Walked}
 use Rattle.job.specs.Checking.{begun, Allowed, Idle}

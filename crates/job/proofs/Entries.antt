@@ -1,20 +1,20 @@
 -- A clause that is entered, as an input clause or as a lemma.
-use Rattle.std.proofs.Common.{◌≡◌, ℕ, zero, suc, ◌+◌, ◌*◌, ◌<◌, ◌≤◌, Bool, true, false, cond, eqb, ◌≢◌, List, [], ◌∷◌, ◌++◌, length, get_or, set, sym, refl, ap, ◌∙◌, subst, add-one, arith, get_or-set_other, get_or-set_same, below_more}
+use Rattle.std.proofs.Common.{◌≡◌, ℕ, suc, ◌+◌, ◌*◌, ◌<◌, ◌≤◌, true, false, ◌≢◌, List, [], ◌∷◌, ◌++◌, length, get_or, set, sym, refl, ap, ◌∙◌, subst, add-one, arith, get_or-set_other, get_or-set_same, below_more}
 use lib.Seq.{paste}
 use Rattle.std.proofs.lemmas.List.{length-set, get_or_push, get_or_append_left}
 use Rattle.std.proofs.lemmas.List.Edits.{length-paste}
 use Rattle.std.proofs.lemmas.Bool.{and_from, eq-eqb, ne_eqb}
 use Rattle.cnf.specs.Clauses.{Clause}
 use Rattle.cnf.specs.Ascending.{ascending}
-use Rattle.drup.specs.History.{Step, learned, struck, table, next_number, is_struck, ended}
+use Rattle.drup.specs.History.{Step, learned, table, next_number, ended}
 use Rattle.drup.specs.Laws.{StrikesLive, entry_of, strike_of}
 use Rattle.drup.proofs.Living.{never_yet}
 use Rattle.job.specs.declared.rows.ClauseRow.{ClauseRow}
 use Rattle.job.specs.declared.rows.StepRow.{StepRow}
-use Rattle.job.specs.declared.rows.StepRow.TheVariants.{Lemma, Strike}
+use Rattle.job.specs.declared.rows.StepRow.TheVariants.{Lemma}
 use Rattle.job.specs.View.{View, blank_row, blank_step, texts_in, text_in, texts}
 use Rattle.job.specs.History.{down_from, step_of, steps_from, inputs_of, before, steps_of}
-use Rattle.job.specs.Sound.{laid_to, Laid, Rising, Complete, is_next, Numbered, Unended, Dated, Ordered, Sound}
+use Rattle.job.specs.Sound.{laid_to, Laid, Rising, is_next, Ordered, Sound}
 use Rattle.job.specs.Calls.{new_row, with_input, with_lemma}
 use Rattle.job.proofs.Histories.{length_down, length_steps, strikes_live, steps_most, strike_none}
 use Rattle.job.proofs.Texts.{length_texts, laid_same, texts_entered, text_older, text_newest}

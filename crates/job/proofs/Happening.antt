@@ -1,15 +1,14 @@
 -- What happens to a job's box at a call.
-use Rattle.std.proofs.Common.{◌≡◌, ℕ, zero, suc, ◌+◌, ◌-◌, ◌*◌, ◌<◌, ◌≤◌, Bool, true, false, cond, not, ◌||◌, eqb, ltb, leb, List, [], ◌∷◌, length, is_ok, Ok, Err, Result, sym, refl, ap, ◌∙◌, subst, inl, inr, arith}
+use Rattle.std.proofs.Common.{◌≡◌, ℕ, zero, suc, ◌+◌, ◌-◌, ◌<◌, ◌≤◌, Bool, true, false, cond, not, eqb, ltb, leb, List, [], ◌∷◌, length, is_ok, Ok, Err, Result, sym, refl, ap, ◌∙◌, inl, inr, arith}
 use mathlib.Core.Option.{none}
 use Rattle.std.proofs.lemmas.Bool.{ltb-false, leb-false, or_parts, eqb-false, not-false, cases_eq, eq-eqb, ne_eqb, lt-ltb, ltb-true}
 use Rattle.cnf.specs.declared.literals.Literal.{Literal}
-use Rattle.cnf.specs.declared.faults.ClauseFault.{ClauseFault}
 use Rattle.cnf.specs.declared.faults.ClauseFault.TheVariants.{OutOfRange, Repeated}
 use Rattle.cnf.specs.Clauses.{Clause}
-use Rattle.cnf.specs.Arranging.{beyond, twice, in_range_until, new_until, arranged, arrangement}
-use Rattle.drup.specs.History.{Step, learned, struck, table, begun, ended, Live}
-use Rattle.drup.specs.Forward.{Machine, clauses, Call, clause, lemma, strike, withdraw, full, target, rules, refused, after, unless, without_last}
-use Rattle.drup.specs.Box.{Box, Happens, called}
+use Rattle.cnf.specs.Arranging.{beyond, twice, in_range_until, new_until, arranged}
+use Rattle.drup.specs.History.{struck, begun, ended}
+use Rattle.drup.specs.Forward.{Machine, Call, clause, lemma, strike, withdraw, full, target, rules, refused, after, unless}
+use Rattle.drup.specs.Box.{Happens, called}
 use Rattle.drup.specs.Reading.{box_of}
 use Rattle.drup.proofs.WellFormed.{unbroken}
 use Rattle.job.specs.declared.faults.JobFault.{JobFault}
@@ -18,7 +17,7 @@ use Rattle.job.specs.declared.rows.StepRow.{StepRow}
 use Rattle.job.specs.declared.rows.StepRow.TheVariants.{Lemma, Strike}
 use Rattle.job.specs.Faults.{number_of}
 use Rattle.job.specs.View.{View, text_in, texts, marks}
-use Rattle.job.specs.History.{inputs_of, before, steps_of, machine_of, box_in}
+use Rattle.job.specs.History.{steps_of, machine_of, box_in}
 use Rattle.job.specs.Sound.{Sound}
 use Rattle.job.specs.Calls.{refusal, with_clause, is_full, clause_answer, lemma_answer, copy_in, found_or, strike_answer, last_step, withdraw_answer, with_input, with_lemma, with_strike, without}
 use Rattle.job.proofs.Entries.{inputs_input, steps_input, inputs_lemma, steps_lemma}

@@ -1,7 +1,7 @@
 -- Histories read off lists: their lengths, what they depend on, and what numbered steps make of them.
-use Rattle.std.proofs.Common.{◌≡◌, ℕ, zero, suc, ◌+◌, ◌*◌, ◌<◌, ◌≤◌, Bool, true, false, cond, not, ◌&&◌, ◌||◌, eqb, leb, List, [], ◌∷◌, length, get_or, sym, refl, ap, ◌∙◌, subst, inl, inr, arith}
+use Rattle.std.proofs.Common.{◌≡◌, ℕ, zero, suc, ◌+◌, ◌*◌, ◌<◌, ◌≤◌, Bool, true, false, cond, not, ◌&&◌, ◌||◌, eqb, leb, List, [], ◌∷◌, length, get_or, sym, refl, ap, subst, inl, inr, arith}
 use Rattle.std.proofs.lemmas.Bool.{and_parts, eqb-true, leb-true, not-true, or_parts, and_from, le-leb, not_from_false}
-use Rattle.cnf.specs.Clauses.{Clause, literals}
+use Rattle.cnf.specs.Clauses.{Clause}
 use Rattle.drup.specs.History.{Step, learned, struck, table, next_number, is_struck, ended, lemmas, Live}
 use Rattle.drup.specs.Laws.{StrikesLive, entry_of, strike_of}
 use Rattle.drup.specs.WellFormed.{NoEmpty, OnlyLastEmpty}

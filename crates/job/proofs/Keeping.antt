@@ -1,18 +1,17 @@
 -- A job's facts of its view, and which writes leave them.
-use Rattle.std.proofs.Common.{◌≡◌, ℕ, zero, suc, ◌+◌, ◌*◌, ◌<◌, ◌≤◌, Bool, true, false, List, [], ◌∷◌, length, get_or, set, sym, refl, ap, ◌∙◌, subst, arith, get_or-set_other}
+use Rattle.std.proofs.Common.{◌≡◌, ℕ, suc, ◌<◌, ◌≤◌, Bool, true, false, List, length, get_or, set, sym, refl, ap, ◌∙◌, subst, arith, get_or-set_other}
 use Rattle.std.proofs.lemmas.List.{length-set}
 use Rattle.cnf.specs.declared.literals.Literal.{Literal}
 use Rattle.cnf.specs.Clauses.{Clause}
-use Rattle.drup.specs.History.{Step, table, is_struck, ended}
+use Rattle.drup.specs.History.{Step, table, ended}
 use Rattle.drup.specs.Laws.{entry_of, strike_of}
 use Rattle.drup.specs.Forward.{Machine}
 use Rattle.job.specs.declared.rows.ClauseRow.{ClauseRow}
 use Rattle.job.specs.declared.rows.StepRow.{StepRow}
-use Rattle.job.specs.declared.rows.StepRow.TheVariants.{Lemma, Strike}
 use Rattle.job.specs.declared.jobs.Job.{Job}
-use Rattle.job.specs.View.{View, blank_row, blank_step, clause_at, texts_in, text_in, texts, with_rows, with_step_rows, with_lits, with_arcs, with_judged, bare}
-use Rattle.job.specs.History.{down_from, steps_from, inputs_of, before, steps_of, machine_of}
-use Rattle.job.specs.Sound.{Range, Rooms, Counts, Laid, Rising, Complete, is_next, Numbered, Unended, Dated, Ordered, Sound}
+use Rattle.job.specs.View.{View, blank_row, blank_step, clause_at, text_in, texts, with_rows, with_step_rows, with_lits, with_arcs, with_judged, bare}
+use Rattle.job.specs.History.{down_from, steps_from, inputs_of, before, machine_of}
+use Rattle.job.specs.Sound.{Rising, Complete, is_next, Numbered, Unended, Dated, Sound}
 use Rattle.job.specs.Seen.{view}
 use Rattle.job.proofs.Histories.{down_same, steps_same, table_up, lemma_range, length_down}
 use Rattle.job.proofs.Texts.{laid_within, laid_same, texts_same, clause_beyond}
@@ -31,21 +30,6 @@ sound j = record {
   dated = j.dated;
   ordered = j.ordered;
 }
-
--- as the ghost fields of a job ask for it, in their order
-pub fields : (s : View) → Sound s
-    → Range s.variables s.places s.room
-    × (Rooms s.places s.room s.rows s.steps s.lits
-    × (Counts s.places s.room s.inputs s.clauses s.taken s.used
-    × (Laid s.rows s.clauses s.used
-    × (Rising s.variables (texts s) s.clauses
-    × (Complete (texts s) s.inputs s.steps s.taken s.clauses
-    × (Numbered (texts s) s.inputs s.steps s.taken
-    × (Unended (texts s) s.steps s.taken
-    × (Dated s.rows (texts s) s.inputs s.steps s.taken s.clauses
-    × (Ordered s.rows s.clauses × Unit {0})))))))))
-fields s o =
-    (o.range, (o.rooms, (o.counts, (o.laid, (o.rising, (o.complete, (o.numbered, (o.unended, (o.dated, (o.ordered, tt))))))))))
 
 -- other literals behind those in use
 pub sound_lits : (s : View) (lits : List Literal) → length lits ≡ length s.lits → texts (with_lits lits s) ≡ texts s → Sound s

@@ -1,13 +1,12 @@
 -- Calls replayed on a new job.
-use Rattle.std.proofs.Common.{◌≡◌, ℕ, zero, suc, ◌+◌, ◌-◌, ◌<◌, ◌≤◌, Bool, true, false, cond, eqb, List, [], ◌∷◌, length, get_or, take, drop, Ok, Err, Result, sym, refl, ap, ◌∙◌, subst, inl, inr, arith, length-drop}
+use Rattle.std.proofs.Common.{◌≡◌, ℕ, ◌+◌, ◌-◌, ◌≤◌, Bool, true, false, cond, eqb, List, [], ◌∷◌, length, get_or, take, drop, Ok, Err, Result, sym, refl, ap, ◌∙◌, subst, arith, length-drop}
 use mathlib.Core.Option.{some, none}
 use Rattle.std.proofs.lemmas.List.{take_all, drop_all}
 use Rattle.std.proofs.lemmas.Bool.{eqb-true}
 use Rattle.cnf.specs.declared.literals.Literal.{Literal}
-use Rattle.drup.specs.Forward.{Machine, opened, Call}
+use Rattle.drup.specs.Forward.{Machine, opened}
 use Rattle.drup.specs.Backward.{fails}
-use Rattle.drup.specs.Box.{Box, Event, Lent, called, unchecked, checked, Happens, Run}
-use Rattle.drup.specs.Agreement.{Agrees}
+use Rattle.drup.specs.Box.{Box, Event, Lent, unchecked, checked, Happens, Run}
 use Rattle.drup.proofs.Agreeing.{agreement}
 use Rattle.engine.specs.Meaning.{Meaning}
 use Rattle.job.specs.declared.faults.JobFault.{JobFault}
@@ -19,7 +18,7 @@ use Rattle.drup.specs.Reading.{verdict_at}
 use Rattle.job.specs.View.{View, marks}
 use Rattle.job.specs.History.{box_in, machine_of}
 use Rattle.job.specs.Checking.{event_of}
-use Rattle.job.specs.Replaying.{blank_order, part_of, IsCheck, IsOrdered, number_in, Came, AllOrdered, Played, AgreesThroughout, new_machine}
+use Rattle.job.specs.Replaying.{blank_order, part_of, IsCheck, IsOrdered, number_in, Came, Played, AgreesThroughout, new_machine}
 
 -- the parts of a list
 pub part_none : (told : List Literal) (start len : ℕ) → length told ≤ start → part_of told start len ≡ []

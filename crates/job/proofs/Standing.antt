@@ -1,5 +1,5 @@
 -- What a sound job's machine is like.
-use Rattle.std.proofs.Common.{◌≡◌, ℕ, zero, suc, ◌+◌, ◌-◌, ◌*◌, ◌<◌, ◌≤◌, Bool, true, false, cond, not, ◌&&◌, ◌||◌, eqb, ltb, leb, List, [], ◌∷◌, length, get_or, sym, refl, ap, ◌∙◌, subst, inl, inr, arith}
+use Rattle.std.proofs.Common.{◌≡◌, ℕ, zero, suc, ◌+◌, ◌-◌, ◌<◌, ◌≤◌, Bool, true, false, cond, not, ◌&&◌, ◌||◌, eqb, ltb, leb, List, [], ◌∷◌, length, get_or, sym, refl, ap, ◌∙◌, subst, inl, inr, arith}
 use mathlib.Core.List.Memᴰ
 use mathlib.Core.List.Memᴰ.{head as here}
 use mathlib.Core.List.Memᴰ.{tail as there}
@@ -10,7 +10,7 @@ use Rattle.cnf.specs.Arranging.{arranged}
 use Rattle.cnf.specs.Ascending.{ascending}
 use Rattle.cnf.proofs.Arranging.{all_cons, arranged_length}
 use Rattle.drup.specs.History.{Step, learned, struck, table, next_number, text, is_struck, begun, lemmas, same_clause, live_copy, Live}
-use Rattle.drup.specs.Forward.{Machine, clauses, full}
+use Rattle.drup.specs.Forward.{full}
 use Rattle.drup.specs.WellFormed.{WellFormed}
 use Rattle.drup.specs.Laws.{StrikesLive}
 use Rattle.drup.proofs.Numbers.{text_newest, text_older, at_most}

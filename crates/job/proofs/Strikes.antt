@@ -1,21 +1,18 @@
 -- A clause that is struck or lives again, and a lemma that is taken back.
-use Rattle.std.proofs.Common.{◌≡◌, ℕ, zero, suc, ◌+◌, ◌-◌, ◌*◌, ◌<◌, ◌≤◌, Bool, true, false, cond, ◌||◌, eqb, ◌≢◌, List, [], ◌∷◌, ◌++◌, length, get_or, set, sym, refl, ap, ◌∙◌, subst, inl, inr, add-one, arith, get_or-set_other, get_or-set_same, below_more}
+use Rattle.std.proofs.Common.{◌≡◌, ℕ, zero, suc, ◌+◌, ◌-◌, ◌*◌, ◌<◌, ◌≤◌, true, false, List, [], ◌∷◌, length, get_or, set, sym, refl, ap, ◌∙◌, subst, inl, inr, add-one, arith, get_or-set_other, get_or-set_same, below_more}
 use Rattle.std.proofs.lemmas.List.{length-set}
 use Rattle.std.proofs.lemmas.Bool.{cases_eq, eq-eqb, ne_eqb}
-use Rattle.cnf.specs.declared.literals.Literal.{Literal}
 use Rattle.cnf.specs.Clauses.{Clause}
-use Rattle.cnf.specs.Ascending.{ascending}
-use Rattle.drup.specs.History.{Step, learned, struck, table, next_number, is_struck, ended, Live}
+use Rattle.drup.specs.History.{Step, struck, table, ended, Live}
 use Rattle.drup.specs.Laws.{StrikesLive, entry_of, strike_of}
 use Rattle.job.specs.declared.rows.ClauseRow.{ClauseRow}
-use Rattle.job.specs.declared.rows.StepRow.{StepRow}
-use Rattle.job.specs.declared.rows.StepRow.TheVariants.{Lemma, Strike}
+use Rattle.job.specs.declared.rows.StepRow.TheVariants.{Strike}
 use Rattle.job.specs.View.{View, blank_row, blank_step, clause_at, texts_in, text_in, texts}
-use Rattle.job.specs.History.{down_from, step_of, steps_from, inputs_of, before, steps_of}
-use Rattle.job.specs.Sound.{laid_to, Laid, Rising, Complete, is_next, Numbered, Unended, Dated, Ordered, Sound}
-use Rattle.job.specs.Calls.{struck_at, with_strike, last_step, without}
-use Rattle.job.proofs.Histories.{length_steps, strikes_live, steps_most, strike_none, entry_most, next_lemma, next_strike, live_next}
-use Rattle.job.proofs.Texts.{length_texts, get_d_texts, laid_last, laid_same, texts_same, text_before}
+use Rattle.job.specs.History.{step_of, steps_from, inputs_of, before, steps_of}
+use Rattle.job.specs.Sound.{Laid, Rising, is_next, Sound}
+use Rattle.job.specs.Calls.{struck_at, with_strike}
+use Rattle.job.proofs.Histories.{strikes_live, steps_most, entry_most, live_next}
+use Rattle.job.proofs.Texts.{laid_same, texts_same}
 use Rattle.job.proofs.Keeping.{same_inputs, same_before, same_numbered, same_unended}
 use Rattle.job.proofs.Entries.{all_steps}
 

@@ -1,13 +1,13 @@
 -- The clauses that rows and literals stand for, and what a write leaves of them.
-use Rattle.std.proofs.Common.{◌≡◌, ℕ, zero, suc, ◌+◌, ◌-◌, ◌<◌, ◌≤◌, true, ◌&&◌, eqb, ◌≢◌, List, [], ◌∷◌, ◌++◌, map, length, get_or, take, drop, set, sym, refl, ap, ◌∙◌, subst, inl, inr, arith, get_or-set_other, get_or-set_same, rules}
+use Rattle.std.proofs.Common.{◌≡◌, ℕ, zero, suc, ◌+◌, ◌-◌, ◌<◌, ◌≤◌, true, eqb, ◌≢◌, List, [], ◌∷◌, ◌++◌, map, length, get_or, take, set, sym, refl, ap, ◌∙◌, inl, inr, arith, rules}
 use lib.Seq.{paste}
-use Rattle.std.proofs.lemmas.List.{ext_get_or, same_lists, places, get_or-map, get_or-take, get_or_default, get_or_push, get_or_append_left, length-map, length-take-le, length_push, length-set, take_more_set, map_push}
-use Rattle.std.proofs.lemmas.Bool.{and_parts, eqb-true, cases_eq, cases_lt}
+use Rattle.std.proofs.lemmas.List.{ext_get_or, same_lists, places, get_or-map, get_or-take, get_or_push, get_or_append_left, length-map, length-take-le, length-set, take_more_set, map_push}
+use Rattle.std.proofs.lemmas.Bool.{and_parts, eqb-true}
 use Rattle.cnf.specs.declared.literals.Literal.{Literal}
 use Rattle.cnf.specs.Clauses.{Clause, literals}
 use Rattle.drup.proofs.Numbers.{at_most}
 use Rattle.job.specs.declared.rows.ClauseRow.{ClauseRow}
-use Rattle.job.specs.View.{blank_row, clause_at, texts_of, texts_in, text_in}
+use Rattle.job.specs.View.{blank_row, clause_at, texts_in, text_in}
 use Rattle.job.specs.History.{down_from}
 use Rattle.job.specs.Sound.{laid_to, Laid}
 

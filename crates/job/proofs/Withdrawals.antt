@@ -1,18 +1,18 @@
 -- The latest step is taken back.
-use Rattle.std.proofs.Common.{◌≡◌, ℕ, zero, suc, ◌+◌, ◌-◌, ◌*◌, ◌<◌, ◌≤◌, Bool, true, false, cond, eqb, ◌≢◌, List, [], ◌∷◌, length, get_or, set, sym, refl, ap, ◌∙◌, subst, inl, inr, arith, get_or-set_other, get_or-set_same}
+use Rattle.std.proofs.Common.{◌≡◌, ℕ, suc, ◌-◌, ◌<◌, ◌≤◌, true, List, ◌∷◌, length, get_or, set, sym, refl, ap, ◌∙◌, subst, inl, inr, arith, get_or-set_other, get_or-set_same}
 use Rattle.std.proofs.lemmas.List.{length-set}
 use Rattle.std.proofs.lemmas.Bool.{cases_eq, ne_eqb}
 use Rattle.cnf.specs.Clauses.{Clause}
 use Rattle.cnf.specs.Ascending.{ascending}
-use Rattle.drup.specs.History.{Step, learned, struck, table, next_number, is_struck, ended, Live}
+use Rattle.drup.specs.History.{Step, learned, struck, table, next_number, Live}
 use Rattle.drup.specs.Laws.{entry_of, strike_of}
 use Rattle.drup.specs.Forward.{without_last}
 use Rattle.job.specs.declared.rows.ClauseRow.{ClauseRow}
 use Rattle.job.specs.declared.rows.StepRow.{StepRow}
 use Rattle.job.specs.declared.rows.StepRow.TheVariants.{Lemma, Strike}
-use Rattle.job.specs.View.{View, blank_row, blank_step, texts_in, text_in, texts}
-use Rattle.job.specs.History.{down_from, step_of, steps_from, inputs_of, before, steps_of}
-use Rattle.job.specs.Sound.{laid_to, Laid, Rising, Complete, is_next, Numbered, Unended, Dated, Ordered, Sound}
+use Rattle.job.specs.View.{View, blank_row, texts_in, text_in, texts}
+use Rattle.job.specs.History.{step_of, inputs_of, before, steps_of}
+use Rattle.job.specs.Sound.{laid_to, Rising, is_next, Sound}
 use Rattle.job.specs.Calls.{struck_at, last_step, without}
 use Rattle.job.proofs.Histories.{inputs_within, strike_none, next_lemma, next_strike}
 use Rattle.job.proofs.Texts.{get_d_texts, laid_last, text_before}

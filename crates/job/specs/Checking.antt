@@ -1,5 +1,5 @@
 -- What a check does to a job, to its box and to the engine.
-use Rattle.std.specs.Prelude.{◌≡◌, ℕ, Bool, true, false, cond, List, [], ◌∷◌, length, replicate, Ok, Err, Result, ◌==◌}
+use Rattle.std.specs.Prelude.{◌≡◌, ℕ, Bool, true, false, cond, [], ◌∷◌, length, replicate, Ok, Err, Result, ◌==◌}
 use Rattle.drup.specs.History.{ended}
 use Rattle.drup.specs.Backward.{accepted, fails}
 use Rattle.drup.specs.Backward.{Report as Told}

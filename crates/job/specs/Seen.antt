@@ -25,5 +25,5 @@ abbrev pub SameLent : Job → Job → Type 0
 SameLent i j =
     (j.records.ghost_name ≡ i.records.ghost_name)
     × (j.steps.ghost_name ≡ i.steps.ghost_name)
-    × (j.literals.name ≡ i.literals.name)
-    × (j.arcs.name ≡ i.arcs.name)
+    × (j.literals.ghost_name ≡ i.literals.ghost_name)
+    × (j.arcs.ghost_name ≡ i.arcs.ghost_name)

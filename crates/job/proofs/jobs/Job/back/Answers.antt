@@ -1,4 +1,4 @@
-use Rattle.std.proofs.Common.{◌≡◌, sym, refl, ap, ◌∙◌, subst, arith}
+use Rattle.std.proofs.Common.{sym, subst, arith}
 use Rattle.engine.specs.Meaning.{Meaning}
 use Rattle.job.specs.View.{text_in, texts}
 use Rattle.job.specs.History.{inputs_of, before}

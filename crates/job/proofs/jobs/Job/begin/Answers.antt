@@ -1,6 +1,5 @@
-use Rattle.std.proofs.Common.{◌≡◌, ap, ◌∙◌, arith}
+use Rattle.std.proofs.Common.{ap, arith}
 use Rattle.job.specs.View.{View}
-use Rattle.job.specs.Seen.{view}
 use Rattle.job.proofs.CheckWhole.{one_only}
 use Rattle.job.proofs.jobs.Job.begin.Goals as goal
 

@@ -1,6 +1,6 @@
-use Rattle.std.proofs.Common.{◌≡◌, true, false, sym, refl, ap, ◌∙◌, subst}
+use Rattle.std.proofs.Common.{true, false, sym, refl, ap, ◌∙◌, subst}
 use Rattle.drup.specs.Forward.{Machine}
-use Rattle.drup.specs.Backward.{Verdict, accepted, fails}
+use Rattle.drup.specs.Backward.{accepted, fails}
 use Rattle.drup.specs.Box.{checked, Happens}
 use Rattle.drup.specs.Reading.{verdict_at, box_of}
 use Rattle.drup.proofs.Reading.{accepted_read, fails_read}
@@ -8,7 +8,7 @@ use Rattle.job.specs.View.{View, marks, with_judged}
 use Rattle.job.specs.History.{machine_of, box_in}
 use Rattle.job.specs.Seen.{view}
 use Rattle.job.specs.CheckLists.{arcs_of, Framed}
-use Rattle.job.specs.Checking.{told, wiped, lent_by}
+use Rattle.job.specs.Checking.{told, lent_by}
 use Rattle.job.proofs.Keeping.{sound}
 use Rattle.job.proofs.CheckFit.{fit}
 use Rattle.job.proofs.CheckFraming.{machine_framed, framed_wiped}

@@ -1,6 +1,4 @@
-use Rattle.std.proofs.Common.{◌≡◌, sym, ap, ◌∙◌, subst, arith}
-use Rattle.engine.specs.Meaning.{Meaning, cleared}
-use Rattle.engine.proofs.Refusing.{shut_done}
+use Rattle.std.proofs.Common.{sym, ap, ◌∙◌, subst, arith}
 use Rattle.job.specs.View.{texts}
 use Rattle.job.specs.Seen.{view}
 use Rattle.job.specs.CheckFrame.{filled, Large}

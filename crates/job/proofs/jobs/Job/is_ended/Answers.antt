@@ -1,4 +1,4 @@
-use Rattle.std.proofs.Common.{◌≡◌, ℕ, suc, ◌-◌, ◌<◌, eqb, List, ◌∷◌, length, sym, refl, ap, ◌∙◌, arith}
+use Rattle.std.proofs.Common.{◌-◌, ◌<◌, eqb, ◌∷◌, length, sym, ap, ◌∙◌, arith}
 use Rattle.cnf.specs.Clauses.{Clause}
 use Rattle.drup.specs.History.{ended}
 use Rattle.job.specs.declared.rows.StepRow.{StepRow}

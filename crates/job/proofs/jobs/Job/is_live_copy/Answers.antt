@@ -1,5 +1,4 @@
 use Rattle.std.proofs.Common.{◌≡◌, ℕ, suc, ◌-◌, Bool, cond, not, ◌&&◌, eqb, sym, ap, ◌∙◌, arith}
-use Rattle.cnf.specs.Clauses.{Clause}
 use Rattle.drup.specs.History.{is_struck, live_copy, same_clause}
 use Rattle.job.specs.declared.rows.ClauseRow.{ClauseRow}
 use Rattle.job.specs.View.{text_in, texts}

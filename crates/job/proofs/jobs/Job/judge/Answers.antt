@@ -1,4 +1,4 @@
-use Rattle.std.proofs.Common.{◌≡◌, ℕ, [], ◌∷◌, map, length, sym, refl, ap, ◌∙◌, subst, arith}
+use Rattle.std.proofs.Common.{ℕ, [], ◌∷◌, map, length, sym, refl, ap, ◌∙◌, subst, arith}
 use Rattle.cnf.specs.Literals.{complement}
 use Rattle.cnf.specs.Clauses.{◌∈◌}
 use Rattle.drup.specs.Backward.{gathered, asked}
@@ -6,7 +6,6 @@ use Rattle.engine.specs.Meaning.{Meaning, On, text_of}
 use Rattle.trial.specs.Noted.{latest}
 use Rattle.trial.specs.Trying.{EndsRight}
 use Rattle.trial.proofs.Conflicts.{row_alive, row_few}
-use Rattle.job.specs.declared.jobs.reports.Tally.{Tally}
 use Rattle.job.specs.View.{text_in, texts}
 use Rattle.job.specs.Seen.{view}
 use Rattle.job.specs.CheckLists.{recorded}

@@ -1,14 +1,14 @@
-use Rattle.std.proofs.Common.{◌≡◌, ℕ, ◌-◌, get_or, set, refl, ap, ◌∙◌, arith}
+use Rattle.std.proofs.Common.{◌-◌, get_or, refl, ap, arith}
 use Rattle.trial.proofs.Members.{get_d_in}
-use Rattle.job.specs.View.{View, blank_row, with_rows}
+use Rattle.job.specs.View.{View, blank_row}
 use Rattle.job.specs.Seen.{view}
 use Rattle.job.specs.CheckLists.{kept_row}
-use Rattle.job.proofs.Keeping.{sound, fields}
+use Rattle.job.proofs.Keeping.{sound}
 use Rattle.job.proofs.CheckMarks.{sound_marked, mark_one, marked_all}
 use Rattle.job.proofs.jobs.Job.keep.Goals as goal
 
-pub overflow-sub-place : goal.overflow-sub-place
-overflow-sub-place c =
+pub overflow_sub-place : goal.overflow_sub-place
+overflow_sub-place c =
     let z = c.requires (get_or c.args.numbers.now c.loop-j.j 0) (get_d_in c.args.numbers.now c.loop-j.j 0 c.loop-j-test.true) in
     z.0
 
@@ -25,7 +25,19 @@ pub invariant_of-self : goal.invariant_of-self
 invariant_of-self c =
     let t = view c.loop-j.self in
     let i = get_or c.args.numbers.now c.loop-j.j 0 - 1 in
-    fields (with_rows (set t.rows i (kept_row (get_or t.rows i blank_row))) t) (sound_marked t i (kept_row (get_or t.rows i blank_row)) refl (sound c.loop-j.self))
+    let o = sound_marked t i (kept_row (get_or t.rows i blank_row)) refl (sound c.loop-j.self) in
+    record {
+      range = o.range;
+      rooms = o.rooms;
+      counts = o.counts;
+      laid = o.laid;
+      rising = o.rising;
+      complete = o.complete;
+      numbered = o.numbered;
+      unended = o.unended;
+      dated = o.dated;
+      ordered = o.ordered;
+    }
 
 pub loop-j-preserved : goal.loop-j-preserved
 loop-j-preserved c = (

@@ -1,4 +1,4 @@
-use Rattle.std.proofs.Common.{◌≡◌, ℕ, ◌+◌, true, false, sym, refl, ap, ◌∙◌, arith}
+use Rattle.std.proofs.Common.{ℕ, ◌+◌, true, false, sym, ap, ◌∙◌, arith}
 use Rattle.drup.specs.Reading.{marks_of}
 use Rattle.job.specs.View.{text_in, texts, marks}
 use Rattle.job.specs.Seen.{view}
@@ -7,8 +7,8 @@ use Rattle.job.proofs.CheckMarking.{mark_there}
 use Rattle.job.proofs.jobs.Job.kept_inputs.Goals.{then-self-i, else-self-i}
 use Rattle.job.proofs.jobs.Job.kept_inputs.Goals as goal
 
-pub overflow-add-count : goal.overflow-add-count
-overflow-add-count c =
+pub overflow_add-count : goal.overflow_add-count
+overflow_add-count c =
     let s = view c.args.self.now in
     let h = sieved_most (marks_of (marks s)) (text_in (texts s)) c.loop-i.i in
     let a = c.args.self.now.counts.0 in

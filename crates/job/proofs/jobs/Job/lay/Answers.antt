@@ -1,9 +1,9 @@
-use Rattle.std.proofs.Common.{◌≡◌, ◌+◌, get_or, set, sym, refl, ap, ◌∙◌, arith}
+use Rattle.std.proofs.Common.{◌+◌, get_or, set, refl, ap, ◌∙◌, arith}
 use Rattle.std.proofs.lemmas.List.Edits.{paste_none, paste_more}
 use Rattle.job.specs.View.{View, with_lits}
 use Rattle.job.specs.Seen.{view}
 use Rattle.job.proofs.Copies.{blank}
-use Rattle.job.proofs.Keeping.{sound, fields, sound_beyond}
+use Rattle.job.proofs.Keeping.{sound, sound_beyond}
 use Rattle.job.proofs.jobs.Job.lay.Goals as goal
 
 pub loop-j-init : goal.loop-j-init
@@ -19,7 +19,19 @@ invariant_of-self c =
     let used = ap (λ (v : View). v.used) c.loop-j.invariant.1 in
     let room = ap (λ (v : View). v.room) c.loop-j.invariant.1 in
     let wide = c.loop-j.self.rooms.2 in
-    fields (with_lits (set t.lits p l) t) (sound_beyond t p l (omega arith) (omega (arith, c.requires)) (sound c.loop-j.self))
+    let o = sound_beyond t p l (omega arith) (omega (arith, c.requires)) (sound c.loop-j.self) in
+    record {
+      range = o.range;
+      rooms = o.rooms;
+      counts = o.counts;
+      laid = o.laid;
+      rising = o.rising;
+      complete = o.complete;
+      numbered = o.numbered;
+      unended = o.unended;
+      dated = o.dated;
+      ordered = o.ordered;
+    }
 
 pub loop-j-preserved : goal.loop-j-preserved
 loop-j-preserved c =

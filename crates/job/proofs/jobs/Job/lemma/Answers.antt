@@ -1,4 +1,4 @@
-use Rattle.std.proofs.Common.{◌≡◌, ℕ, ◌+◌, ◌≤◌, true, false, length, set, Ok, Err, Result, sym, refl, ap, ◌∙◌, subst, arith, rules}
+use Rattle.std.proofs.Common.{◌≡◌, ℕ, true, length, Ok, Err, Result, sym, refl, ap, ◌∙◌, subst, arith, rules}
 use Rattle.cnf.specs.Arranging.{arranged}
 use Rattle.cnf.specs.Drafts.{outcome}
 use Rattle.job.specs.declared.faults.JobFault.{JobFault}
@@ -18,8 +18,8 @@ returns-then-is_ended c =
     let j = c.args.self.now in
     let s = view j in
     let ls = c.args.literals.now in
-    let x = c.in-ok-clause.clause.now in
-    let m = makes s.variables ls x (outcome c.arrange-draft.result) j.range.0 c.in-ok-clause.ensures c.arrange-draft.ensures.outcome in
+    let x = c.in_ok-clause.clause.now in
+    let m = makes s.variables ls x (outcome c.arrange-draft.result) j.range.0 c.in_ok-clause.ensures c.arrange-draft.ensures.outcome in
     let r : Result ℕ JobFault = Err Ended in
     let answer : r ≡ lemma_answer s ls = lemma_ended s ls x m.is (sym c.if-is_ended.ensures) in
     record { lent = (refl, refl, refl, refl); answer = answer; after = refl; happens = lemma_happens s (sound j) ls r s answer refl }
@@ -29,8 +29,8 @@ returns-then-is_full c =
     let j = c.args.self.now in
     let s = view j in
     let ls = c.args.literals.now in
-    let x = c.in-ok-clause.clause.now in
-    let m = makes s.variables ls x (outcome c.arrange-draft.result) j.range.0 c.in-ok-clause.ensures c.arrange-draft.ensures.outcome in
+    let x = c.in_ok-clause.clause.now in
+    let m = makes s.variables ls x (outcome c.arrange-draft.result) j.range.0 c.in_ok-clause.ensures c.arrange-draft.ensures.outcome in
     let r : Result ℕ JobFault = Err Full in
     let answer : r ≡ lemma_answer s ls = lemma_full s ls x m.is (sym c.if-is_ended.ensures) (sym c.if-is_full.ensures) in
     record { lent = (refl, refl, refl, refl); answer = answer; after = refl; happens = lemma_happens s (sound j) ls r s answer refl }
@@ -40,8 +40,8 @@ count_lemma-requires c =
     let j = c.args.self.now in
     let s = view j in
     let ls = c.args.literals.now in
-    let x = c.in-ok-clause.clause.now in
-    let m = makes s.variables ls x (outcome c.arrange-draft.result) j.range.0 c.in-ok-clause.ensures c.arrange-draft.ensures.outcome in
+    let x = c.in_ok-clause.clause.now in
+    let m = makes s.variables ls x (outcome c.arrange-draft.result) j.range.0 c.in_ok-clause.ensures c.arrange-draft.ensures.outcome in
     let room = room_for s (length x) j.counts.3 (sym c.if-is_full.ensures) in
     let bound = step_bound s (sound j) x room.0 room.1 in
     let stored = c.store.ensures.after in
@@ -60,8 +60,8 @@ returns c =
     let j = c.args.self.now in
     let s = view j in
     let ls = c.args.literals.now in
-    let x = c.in-ok-clause.clause.now in
-    let m = makes s.variables ls x (outcome c.arrange-draft.result) j.range.0 c.in-ok-clause.ensures c.arrange-draft.ensures.outcome in
+    let x = c.in_ok-clause.clause.now in
+    let m = makes s.variables ls x (outcome c.arrange-draft.result) j.range.0 c.in_ok-clause.ensures c.arrange-draft.ensures.outcome in
     let after : view c.count_lemma.new.self ≡ with_lemma true s (arranged ls) =
     c.count_lemma.ensures.after ∙ ap (λ (t : View). counting_lemma t (length x)) c.store.ensures.after ∙ ap (with_lemma true s) m.same in
     let r : Result ℕ JobFault = Ok c.count_lemma.new.self.clauses in

@@ -1,4 +1,3 @@
-use Rattle.std.proofs.Common.{arith}
 use Rattle.job.specs.Seen.{view}
 use Rattle.job.proofs.CheckSurround.{lit_allowed, lit_more}
 use Rattle.job.proofs.jobs.Job.light.Goals as goal

@@ -1,4 +1,4 @@
-use Rattle.std.proofs.Common.{◌≡◌, List, sym, refl, ap, ◌∙◌, subst}
+use Rattle.std.proofs.Common.{List, refl, ◌∙◌, subst}
 use Rattle.cnf.specs.declared.literals.Literal.{Literal}
 use Rattle.drup.specs.Forward.{clause, lemma, strike, withdraw}
 use Rattle.drup.specs.Box.{called, Happens}

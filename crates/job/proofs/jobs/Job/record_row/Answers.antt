@@ -1,4 +1,4 @@
-use Rattle.std.proofs.Common.{◌≡◌, ℕ, ◌+◌, ◌-◌, ◌*◌, List, [], ◌∷◌, length, sym, ap, ◌∙◌, subst, arith}
+use Rattle.std.proofs.Common.{◌+◌, ◌-◌, ◌*◌, [], ◌∷◌, length, ap, ◌∙◌, arith}
 use Rattle.drup.specs.Backward.{gathered}
 use Rattle.engine.specs.Meaning.{text_of}
 use Rattle.trial.specs.Noted.{latest}
@@ -28,7 +28,7 @@ lay_row-requires g c =
     c.args.n (((c.args.n - 1) - s.inputs) * (s.variables + 1)) (λ i. ((c.args.n - 1) - s.inputs) * (s.variables + 1)) c.requires.few c.requires.room.2
 
 pub keep-requires : goal.keep-requires
-keep-requires g c κs n x =
+keep-requires g c n x =
     let m = g.E.Engine.meaning c.args.engine.now in
     let s = view c.args.self.now in
     let on = row_on m s c.requires.holds (latest c.args.answers.now) c.args.conflict c.numbers-2.result.now (c.numbers-2.ensures ∙ c.row_of-row.ensures) c.requires.live n x in

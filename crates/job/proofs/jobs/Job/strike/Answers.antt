@@ -17,21 +17,21 @@ returns-then-is_ended c =
     let j = c.args.self.now in
     let s = view j in
     let ls = c.args.literals.now in
-    let x = c.in-ok-clause.clause.now in
-    let m = makes s.variables ls x (outcome c.arrange-draft.result) j.range.0 c.in-ok-clause.ensures c.arrange-draft.ensures.outcome in
+    let x = c.in_ok-clause.clause.now in
+    let m = makes s.variables ls x (outcome c.arrange-draft.result) j.range.0 c.in_ok-clause.ensures c.arrange-draft.ensures.outcome in
     let r : Result ℕ JobFault = Err Ended in
     let answer : r ≡ strike_answer s ls = strike_ended s ls x m.is (sym c.if-is_ended.ensures) in
     record { lent = (refl, refl, refl, refl); answer = answer; after = refl; happens = strike_happens s (sound j) ls r s answer refl }
 
-pub returns-in-default : goal.returns-in-default
-returns-in-default c =
+pub returns-in_default : goal.returns-in_default
+returns-in_default c =
     let j = c.args.self.now in
     let s = view j in
     let ls = c.args.literals.now in
-    let x = c.in-ok-clause.clause.now in
-    let m = makes s.variables ls x (outcome c.arrange-draft.result) j.range.0 c.in-ok-clause.ensures c.arrange-draft.ensures.outcome in
+    let x = c.in_ok-clause.clause.now in
+    let m = makes s.variables ls x (outcome c.arrange-draft.result) j.range.0 c.in_ok-clause.ensures c.arrange-draft.ensures.outcome in
     let r : Result ℕ JobFault = Err NoneLive in
-    let answer : r ≡ strike_answer s ls = strike_none_live s ls x m.is (sym c.if-is_ended.ensures) c.in-default.ensures in
+    let answer : r ≡ strike_answer s ls = strike_none_live s ls x m.is (sym c.if-is_ended.ensures) c.in_default.ensures in
     record { lent = (refl, refl, refl, refl); answer = answer; after = refl; happens = strike_happens s (sound j) ls r s answer refl }
 
 pub put_strike-requires : goal.put_strike-requires
@@ -39,7 +39,7 @@ put_strike-requires c =
     let j = c.args.self.now in
     let s = view j in
     let n = c.in-Some.n in
-    let x = c.in-ok-clause.clause.now in
+    let x = c.in_ok-clause.clause.now in
     let f = c.in-Some.ensures in
     let live = copy_is_live s (sound j) x n f.0 f.1 in
     let place = its_place s (sound j) n live in
@@ -55,8 +55,8 @@ returns c =
     let s = view j in
     let n = c.in-Some.n in
     let ls = c.args.literals.now in
-    let x = c.in-ok-clause.clause.now in
-    let m = makes s.variables ls x (outcome c.arrange-draft.result) j.range.0 c.in-ok-clause.ensures c.arrange-draft.ensures.outcome in
+    let x = c.in_ok-clause.clause.now in
+    let m = makes s.variables ls x (outcome c.arrange-draft.result) j.range.0 c.in_ok-clause.ensures c.arrange-draft.ensures.outcome in
     let f = c.in-Some.ensures in
     let r : Result ℕ JobFault = Ok n in
     let answer : r ≡ strike_answer s ls = strike_found s ls x m.is n (sym c.if-is_ended.ensures) f.0 f.1 in

@@ -3,8 +3,8 @@ use Rattle.job.specs.View.{blank_row}
 use Rattle.job.proofs.Texts.{laid_within, text_at}
 use Rattle.job.proofs.jobs.Job.text.Goals as goal
 
-pub slice-bounds-result-end : goal.slice-bounds-result-end
-slice-bounds-result-end c =
+pub slice_bounds-result-end : goal.slice_bounds-result-end
+slice_bounds-result-end c =
     let s = c.args.self.now in
     let p = c.args.n - 1 in
     let w = laid_within s.records.now s.clauses s.used s.laid p (omega (arith, c.requires)) in

@@ -1,6 +1,6 @@
-use Rattle.std.proofs.Common.{◌≡◌, ℕ, ◌<◌, length, get_or, set, sym, refl, ap, ◌∙◌, arith}
+use Rattle.std.proofs.Common.{◌<◌, length, get_or, set, refl, ap, ◌∙◌, arith}
 use Rattle.std.proofs.lemmas.List.{get_or_default}
-use Rattle.job.proofs.Keeping.{sound, fields}
+use Rattle.job.proofs.Keeping.{sound}
 use Rattle.job.proofs.CheckMarks.{sound_marked}
 use Rattle.job.proofs.CheckFraming.{unmarked_length}
 use Rattle.job.specs.CheckLists.{unmarked}
@@ -26,4 +26,16 @@ pub invariant_of-self : goal.invariant_of-self
 invariant_of-self c =
     let t = view c.loop-i.self in
     let i = c.loop-i.i in
-    fields (with_rows (set t.rows i (bare (get_or t.rows i blank_row))) t) (sound_marked t i (bare (get_or t.rows i blank_row)) refl (sound c.loop-i.self))
+    let o = sound_marked t i (bare (get_or t.rows i blank_row)) refl (sound c.loop-i.self) in
+    record {
+      range = o.range;
+      rooms = o.rooms;
+      counts = o.counts;
+      laid = o.laid;
+      rising = o.rising;
+      complete = o.complete;
+      numbered = o.numbered;
+      unended = o.unended;
+      dated = o.dated;
+      ordered = o.ordered;
+    }

@@ -1,4 +1,4 @@
-use Rattle.std.proofs.Common.{◌≡◌, ℕ, suc, ◌-◌, sym, refl, ap, ◌∙◌, subst, add-one, arith}
+use Rattle.std.proofs.Common.{◌≡◌, ℕ, suc, ◌-◌, sym, refl, ◌∙◌, subst, add-one, arith}
 use Rattle.job.specs.Seen.{view}
 use Rattle.job.specs.CheckWalking.{Walked}
 use Rattle.job.proofs.Keeping.{sound}

@@ -1,4 +1,4 @@
-use Rattle.std.proofs.Common.{◌≡◌, sym, refl, ap, ◌∙◌}
+use Rattle.std.proofs.Common.{sym}
 use Rattle.job.proofs.Replayed.{part_none, part_rest}
 use Rattle.job.proofs.jobs.replaying.part.Goals as goal
 

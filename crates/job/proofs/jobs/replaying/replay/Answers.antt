@@ -1,4 +1,4 @@
-use Rattle.std.proofs.Common.{◌≡◌, ℕ, length, sym, refl, ap, ◌∙◌, subst, arith, rules}
+use Rattle.std.proofs.Common.{◌≡◌, ℕ, length, ◌∙◌, subst, arith, rules}
 use Rattle.job.specs.View.{View}
 use Rattle.job.specs.Seen.{view}
 use Rattle.job.specs.Opening.{opened_over}
