@@ -1,6 +1,6 @@
 //! Numbers of every size and form.
 use crate::prints::prints;
-use std::test::*;
+use std::test::Fail;
 
 #[test]
 fn forms(rt: HostRuntime) -> Result<(), Fail> {
@@ -17,7 +17,7 @@ fn forms(rt: HostRuntime) -> Result<(), Fail> {
         (b"p cnf 3 1\n1 -0", b"refused 1 12\n"),
         (b"p cnf 3 1\n1 00", b"refused 1 12\n"),
     ] {
-        prints(rt.alloc(), text, expected)?;
+        prints(&rt, text, expected)?;
     }
     Ok(())
 }
@@ -39,7 +39,7 @@ fn sizes(rt: HostRuntime) -> Result<(), Fail> {
         (b"p cnf 3 18446744073709551616\n1 0", b"refused 2 32\n"),
         (b"p cnf 3 4294967297\n1 0\n2 x", b"refused 1 25\n"),
     ] {
-        prints(rt.alloc(), text, expected)?;
+        prints(&rt, text, expected)?;
     }
     Ok(())
 }

@@ -1,4 +1,4 @@
-use Rattle.std.proofs.Common.{◌≡◌, decimal, sym, ap, ◌∙◌, arith, rules}
+use Rattle.std.proofs.Common.{◌≡◌, decimal, sym, ap, ◌∙◌, arith}
 use Rattle.words.specs.Lexis.{natural}
 use Rattle.words.specs.Numbers.{value}
 use Rattle.words.proofs.Spoken.{decimal_natural, decimal_value}

@@ -1,6 +1,5 @@
-use Rattle.std.proofs.Common.{not, sym, ap, arith, rules}
+use Rattle.std.proofs.Common.{rules}
 use Rattle.std.proofs.lemmas.List.Sums.{prefix_len-drop_yes, prefix_len-drop_no, prefix_len-drop_all}
-use Rattle.framing.specs.Counted.{in_line}
 use Rattle.framing.proofs.line_end.Goals as goal
 
 pub loop-i-preserved : goal.loop-i-preserved
