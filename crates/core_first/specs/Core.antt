@@ -74,9 +74,9 @@ abbrev pub PreferredFirst : (p : Meaning) → Answer → Type 0
 PreferredFirst p r = Says p r ⊎ Says p Nothing
 
 -- an engine over two sides that stands for m, with this trail and these counts
-pub record Whole (linked : Bool) (p r m : Meaning) (trail : Trail) (textCount literalCount : ℕ) : Type 0 where
+pub record Whole (linked : Bool) (p r m : Meaning) (trail : Trail) (text_total literal_total : ℕ) : Type 0 where
   pub backed : BackedBy linked p r m
   pub well : WellFormed m
   pub tidy : Tidy trail
-  pub text_count : textCount ≡ length m.texts
-  pub literal_count : literalCount ≡ literals m.texts
+  pub text_count : text_total ≡ length m.texts
+  pub literal_count : literal_total ≡ literals m.texts

@@ -2,12 +2,12 @@
 use Rattle.std.specs.Prelude.{ℕ}
 use Rattle.cnf.specs.declared.faults.Layer.{Layer}
 use Rattle.cnf.specs.declared.faults.Layer.TheVariants.{Engine}
-use Rattle.cnf.specs.Faults.{number_of as clauseNumber, place_of as clausePlace}
+use Rattle.cnf.specs.Faults.{number_of as clause_number, place_of as clause_place}
 use Rattle.engine.specs.declared.faults.EngineFault.{EngineFault}
 use Rattle.engine.specs.declared.faults.EngineFault.TheVariants.{Clause, ListTooShort, LimitOutOfRange, Full, NoSuchText, AlreadyOn, NotOn, HasValue, TrialOpen, NoTrial}
 
 abbrev pub number_of : EngineFault → ℕ
-number_of (Clause fault) = clauseNumber fault
+number_of (Clause fault) = clause_number fault
 number_of ListTooShort = 6
 number_of LimitOutOfRange = 7
 number_of Full = 10
@@ -23,7 +23,7 @@ abbrev pub layer_of : EngineFault → Layer
 layer_of fault = Engine
 
 abbrev pub place_of : EngineFault → ℕ
-place_of (Clause fault) = clausePlace fault
+place_of (Clause fault) = clause_place fault
 place_of ListTooShort = 0
 place_of LimitOutOfRange = 0
 place_of Full = 0
