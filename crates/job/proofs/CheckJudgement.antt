@@ -11,7 +11,7 @@ use Rattle.drup.specs.declared.Forced.{Forced}
 use Rattle.drup.specs.Backward.{RightOver, gathered, asked}
 use Rattle.drup.proofs.Short.{asked_few}
 use Rattle.engine.specs.Meaning.{Meaning, On, text_of, Consistent, WellFormed}
-use Rattle.engine.specs.Meaning.{text_in as textFrom}
+use Rattle.engine.specs.Meaning.{text_in as text_from}
 use Rattle.trial.specs.declared.ends.TrialEnd.{TrialEnd}
 use Rattle.trial.specs.declared.ends.TrialEnd.TheVariants.{Conflict, Nothing}
 use Rattle.trial.specs.Trying.{counted_by, EndsRight}
@@ -48,7 +48,7 @@ module _ (s : View) (o : Fit s) where
 
 module _ (m : Meaning) (s : View) (h : Holds m s) (o : Fit s) where
   pub same_texts : text_of m ≡ text_in (texts s)
-  same_texts = ap textFrom h.same ∙ same_number (texts s)
+  same_texts = ap text_from h.same ∙ same_number (texts s)
 
   pub on_within : (k : ℕ) → On m k → Within s.variables (text_of m k)
   on_within k on =
@@ -92,15 +92,15 @@ holds_after m m' s k e h =
 
 -- the row that was gathered
 module _ (m : Meaning) (s : View) (h : Holds m s) (answers : List Forced) (at : ℕ) (numbers : List ℕ)
-    (e : numbers ≡ gathered (textFrom (texts s)) answers (at ∷ [])) where
+    (e : numbers ≡ gathered (text_from (texts s)) answers (at ∷ [])) where
   pub its_row : numbers ≡ gathered (text_of m) answers (at ∷ [])
-  its_row = e ∙ ap (λ (ts : List Clause). gathered (textFrom ts) answers (at ∷ [])) (sym h.same)
+  its_row = e ∙ ap (λ (ts : List Clause). gathered (text_from ts) answers (at ∷ [])) (sym h.same)
 
   pub row_fits : (n place : ℕ) → place ≡ ((n - 1) - s.inputs) * (s.variables + 1) → length answers ≤ s.variables
       → row_start s n + suc s.variables ≤ length s.arcs → place + length numbers ≤ length s.arcs
   row_fits n place p few room =
       let a = place_same n s.inputs s.variables in
-      let b = row_few (textFrom (texts s)) answers at in
+      let b = row_few (text_from (texts s)) answers at in
       let d = ap length e in
       omega arith
 

@@ -9,7 +9,7 @@ use Rattle.cnf.proofs.Arranging.{clause_beyond, clause_twice, clause_arranged}
 use Rattle.drup.specs.History.{is_struck, Live}
 use Rattle.drup.proofs.Numbers.{at_most}
 use Rattle.engine.specs.Meaning.{Meaning, On, is_on, mark_in, with_on, with_mark, with_text, no_text, no_put, no_on, no_off, rule, first_broken}
-use Rattle.engine.specs.Meaning.{text_in as textFrom}
+use Rattle.engine.specs.Meaning.{text_in as text_from}
 use Rattle.engine.specs.declared.faults.EngineFault.{EngineFault}
 use Rattle.engine.specs.declared.faults.EngineFault.TheVariants.{TrialOpen, NoSuchText, AlreadyOn}
 use Rattle.engine.proofs.Refusing.{off_done}
@@ -21,10 +21,10 @@ use Rattle.job.specs.CheckShowing.{Shows, Holds}
 use Rattle.job.proofs.CheckFit.{Fit}
 
 -- a clause with its number, as the job and as an engine say it
-pub same_number : (ts : List Clause) → textFrom ts ≡ text_in ts
+pub same_number : (ts : List Clause) → text_from ts ≡ text_in ts
 same_number ts = λ i n. at n i
   where
-    at : (n : ℕ) → textFrom ts n ≡ text_in ts n
+    at : (n : ℕ) → text_from ts n ≡ text_in ts n
     at zero = refl
     at (suc n) = refl
 
@@ -238,7 +238,7 @@ module _ (s : View) (o : Fit s) where
         record {
           level = g.level ∙ sym l ∙ sym lts;
           has_all = omega arith;
-          same_text = λ n low high. ap (λ (x : List Clause). textFrom x n) ts ∙ (λ i. same_number (texts s) i n) ∙ sym (o.same_text n low (omega arith));
+          same_text = λ n low high. ap (λ (x : List Clause). text_from x n) ts ∙ (λ i. same_number (texts s) i n) ∙ sym (o.same_text n low (omega arith));
           live_on = lit_on;
           on_live = λ n on.
               let (k, e, h, b) = on_below n on in

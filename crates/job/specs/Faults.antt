@@ -2,12 +2,12 @@
 use Rattle.std.specs.Prelude.{ℕ}
 use Rattle.cnf.specs.declared.faults.Layer.{Layer}
 use Rattle.cnf.specs.declared.faults.Layer.TheVariants.{Job}
-use Rattle.cnf.specs.Faults.{number_of as clauseNumber, layer_of as clauseLayer, place_of as clausePlace}
+use Rattle.cnf.specs.Faults.{number_of as clause_number, layer_of as clause_layer, place_of as clause_place}
 use Rattle.job.specs.declared.faults.JobFault.{JobFault}
 use Rattle.job.specs.declared.faults.JobFault.TheVariants.{Clause, TooSmall, Limits, Begun, Ended, Full, NoneLive, NoStep, NotEnded, Fails, NotJudged, TrialOpen}
 
 abbrev pub number_of : JobFault → ℕ
-number_of (Clause fault) = clauseNumber fault
+number_of (Clause fault) = clause_number fault
 number_of TooSmall = 6
 number_of Limits = 7
 number_of Begun = 8
@@ -21,7 +21,7 @@ number_of NotJudged = 15
 number_of TrialOpen = 19
 
 abbrev pub layer_of : JobFault → Layer
-layer_of (Clause fault) = clauseLayer fault
+layer_of (Clause fault) = clause_layer fault
 layer_of TooSmall = Job
 layer_of Limits = Job
 layer_of Begun = Job
@@ -35,7 +35,7 @@ layer_of NotJudged = Job
 layer_of TrialOpen = Job
 
 abbrev pub place_of : JobFault → ℕ
-place_of (Clause fault) = clausePlace fault
+place_of (Clause fault) = clause_place fault
 place_of TooSmall = 0
 place_of Limits = 0
 place_of Begun = 0

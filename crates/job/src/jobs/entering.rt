@@ -1,7 +1,7 @@
 //! How clauses are entered: input clauses, and then lemmas.
 ghost use Rattle.std.specs.Prelude.{◌≡◌, ◌+◌, ◌*◌, ◌<◌, ◌≤◌, length, is_ok};
 ghost use Rattle.cnf.specs.Arranging.{arranged};
-ghost use Rattle.drup.specs.Forward.{clause as tellClause, lemma as tellLemma};
+ghost use Rattle.drup.specs.Forward.{clause as tell_clause, lemma as tell_lemma};
 ghost use Rattle.drup.specs.Box.{Happens, called};
 ghost use Rattle.job.specs.Seen.{view, SameLent};
 ghost use Rattle.job.specs.History.{box_in};
@@ -78,7 +78,7 @@ impl Job<'_> {
         ensures lent { SameLent self.old self.new }
         ensures answer { result ≡ clause_answer (view self.old) literals.now }
         ensures after { view self.new ≡ with_input (is_ok result) (view self.old) (arranged literals.now) }
-        ensures happens { Happens (box_in (view self.old)) (called (tellClause literals.now) (refusal result)) (box_in (view self.new)) }
+        ensures happens { Happens (box_in (view self.old)) (called (tell_clause literals.now) (refusal result)) (box_in (view self.new)) }
     {
         let draft = arrange(self.variables, literals);
         let clause = draft.clause()?;
@@ -98,7 +98,7 @@ impl Job<'_> {
         ensures lent { SameLent self.old self.new }
         ensures answer { result ≡ lemma_answer (view self.old) literals.now }
         ensures after { view self.new ≡ with_lemma (is_ok result) (view self.old) (arranged literals.now) }
-        ensures happens { Happens (box_in (view self.old)) (called (tellLemma literals.now) (refusal result)) (box_in (view self.new)) }
+        ensures happens { Happens (box_in (view self.old)) (called (tell_lemma literals.now) (refusal result)) (box_in (view self.new)) }
     {
         let draft = arrange(self.variables, literals);
         let clause = draft.clause()?;

@@ -1,7 +1,7 @@
 //! How clauses are struck, and how steps are taken back.
 ghost use Rattle.std.specs.Prelude.{◌≡◌, ◌*◌, ◌<◌, ◌≤◌, true, is_ok};
 ghost use Rattle.cnf.specs.Arranging.{arranged};
-ghost use Rattle.drup.specs.Forward.{strike as tellStrike, withdraw as tellWithdraw};
+ghost use Rattle.drup.specs.Forward.{strike as tell_strike, withdraw as tell_withdraw};
 ghost use Rattle.drup.specs.Box.{Happens, called};
 ghost use Rattle.job.specs.declared.rows.StepRow.TheVariants.{Lemma, Strike};
 ghost use Rattle.job.specs.Seen.{view, SameLent};
@@ -38,7 +38,7 @@ impl Job<'_> {
         ensures lent { SameLent self.old self.new }
         ensures answer { result ≡ strike_answer (view self.old) literals.now }
         ensures after { view self.new ≡ with_strike (is_ok result) (view self.old) (copy_in (view self.old) (arranged literals.now)) }
-        ensures happens { Happens (box_in (view self.old)) (called (tellStrike literals.now) (refusal result)) (box_in (view self.new)) }
+        ensures happens { Happens (box_in (view self.old)) (called (tell_strike literals.now) (refusal result)) (box_in (view self.new)) }
     {
         let draft = arrange(self.variables, literals);
         let clause = draft.clause()?;
@@ -88,7 +88,7 @@ impl Job<'_> {
         ensures lent { SameLent self.old self.new }
         ensures answer { result ≡ withdraw_answer (view self.old) }
         ensures after { view self.new ≡ without (is_ok result) (view self.old) (last_step (view self.old)) }
-        ensures happens { Happens (box_in (view self.old)) (called tellWithdraw (refusal result)) (box_in (view self.new)) }
+        ensures happens { Happens (box_in (view self.old)) (called tell_withdraw (refusal result)) (box_in (view self.new)) }
     {
         if self.taken == 0 {
             return Err(JobFault::NoStep);
