@@ -1,5 +1,5 @@
 -- What the calls of a job answer, and what they leave.
-use Rattle.std.specs.Prelude.{◌≡◌, ℕ, zero, suc, ◌+◌, ◌-◌, ◌≤◌, Bool, false, cond, ◌||◌, List, length, get_or, Some, None, Ok, Err, Option, Result, ◌==◌, nat_le, nat_lt, slice_index_or, slice_set}
+use Rattle.std.specs.Prelude.{◌≡◌, ℕ, zero, suc, ◌+◌, ◌-◌, ◌≤◌, Bool, false, cond, ◌||◌, List, length, Some, None, Ok, Err, Option, Result, ◌==◌, nat_le, nat_lt, slice_index_or, slice_set}
 use Rattle.std.proofs.Math.Seq.{paste}
 use Rattle.cnf.specs.declared.literals.Literal.{Literal}
 use Rattle.cnf.specs.Clauses.{Clause}
@@ -180,7 +180,7 @@ clauses_without s (Strike n) = s.clauses
 
 -- the literals: those of a lemma are gone
 abbrev pub used_without : View → StepRow → ℕ
-used_without s (Lemma n) = (get_or s.rows (n - 1) blank_row).start
+used_without s (Lemma n) = (slice_index_or s.rows (n - 1) blank_row).start
 used_without s (Strike n) = s.used
 
 -- this latest step is taken back; its places can be used again

@@ -1,5 +1,5 @@
 -- What every job keeps.
-use Rattle.std.specs.Prelude.{◌≡◌, ℕ, zero, suc, ◌+◌, ◌*◌, ◌<◌, ◌≤◌, Bool, true, false, not, ◌&&◌, List, [], length, get_or, ◌==◌, nat_le, slice_index_or}
+use Rattle.std.specs.Prelude.{◌≡◌, ℕ, zero, suc, ◌+◌, ◌*◌, ◌<◌, ◌≤◌, Bool, true, false, not, ◌&&◌, List, [], length, ◌==◌, nat_le, slice_index_or}
 use Rattle.cnf.specs.declared.literals.Literal.{Literal}
 use Rattle.cnf.specs.Clauses.{Clause}
 use Rattle.cnf.specs.Ascending.{ascending}
@@ -27,7 +27,7 @@ Counts places room inputs clauses taken used = (inputs ≤ clauses) × (clauses 
 abbrev pub laid_to : List ClauseRow → (k end : ℕ) → Bool
 laid_to rows zero end = end == 0
 laid_to rows (suc k) end =
-    ((get_or rows k blank_row).start + (get_or rows k blank_row).len == end) && laid_to rows k (get_or rows k blank_row).start
+    ((slice_index_or rows k blank_row).start + (slice_index_or rows k blank_row).len == end) && laid_to rows k (slice_index_or rows k blank_row).start
 
 abbrev pub Laid : List ClauseRow → (clauses used : ℕ) → Type 0
 Laid rows clauses used = laid_to rows clauses used ≡ true
@@ -59,12 +59,12 @@ Unended texts steps taken = (k : ℕ) → k < taken → ended (steps_from (text_
 abbrev pub Dated : List ClauseRow → List Clause → (inputs : ℕ) → List StepRow → (taken clauses : ℕ) → Type 0
 Dated rows texts inputs steps taken clauses =
     (k : ℕ) → k < clauses
-    → ((get_or rows k blank_row).entered ≡ entry_of (down_from (text_in texts) inputs) (steps_from (text_in texts) steps taken) (suc k))
-    × ((get_or rows k blank_row).struck ≡ strike_of (steps_from (text_in texts) steps taken) (suc k))
+    → ((slice_index_or rows k blank_row).entered ≡ entry_of (down_from (text_in texts) inputs) (steps_from (text_in texts) steps taken) (suc k))
+    × ((slice_index_or rows k blank_row).struck ≡ strike_of (steps_from (text_in texts) steps taken) (suc k))
 
 -- no clause was struck at or before the step of its entry
 abbrev pub Ordered : List ClauseRow → (clauses : ℕ) → Type 0
-Ordered rows clauses = (k : ℕ) → k < clauses → 0 < (get_or rows k blank_row).struck → (get_or rows k blank_row).entered < (get_or rows k blank_row).struck
+Ordered rows clauses = (k : ℕ) → k < clauses → 0 < (slice_index_or rows k blank_row).struck → (slice_index_or rows k blank_row).entered < (slice_index_or rows k blank_row).struck
 
 -- all of it
 pub record Sound (s : View) : Type 0 where
