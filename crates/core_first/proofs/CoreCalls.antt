@@ -1,16 +1,16 @@
 -- What each call of the two sides does to the meaning that they stand for.
-use Rattle.std.proofs.Common.{◌≡◌, ℕ, Bool, true, false, ◌⊎◌, List, Some, None, Ok, Err, Option, Result, sym, refl, ap, ◌∙◌, subst, arith}
+use Rattle.std.proofs.Common.{◌≡◌, ℕ, Bool, true, false, List, Some, None, Ok, Err, Option, Result, sym, refl, ap, ◌∙◌, subst, arith}
 use Rattle.cnf.specs.declared.literals.Literal.{Literal}
 use Rattle.cnf.specs.Arranging.{arranged}
 use Rattle.engine.specs.declared.answers.Answer.{Answer}
 use Rattle.engine.specs.declared.answers.Answer.TheVariants.{Conflict, Forced, Nothing}
 use Rattle.engine.specs.declared.faults.EngineFault.{EngineFault}
-use Rattle.engine.specs.declared.faults.EngineFault.TheVariants.{AlreadyOn, NotOn}
-use Rattle.engine.specs.Meaning.{Meaning, On, is_on, values, with_text, with_mark, joined_by, counted, no_text, no_put, no_on, no_off, no_assume, Says, answered, Does, Puts, TurnsOn, TurnsOff, Prefers, Assumes, Next, WellFormed}
-use Rattle.core_first.specs.Core.{Serves, Together, Bare, BackedBy, told, Asked}
+use Rattle.engine.specs.declared.faults.EngineFault.TheVariants.{AlreadyOn}
+use Rattle.engine.specs.Meaning.{Meaning, On, with_text, with_mark, joined_by, no_text, no_put, no_on, no_off, no_assume, Says, answered, Does, Puts, TurnsOn, TurnsOff, Prefers, Assumes, Next, WellFormed}
+use Rattle.core_first.specs.Core.{Together, BackedBy, told, Asked}
 use Rattle.engine.proofs.Refusing.{on_already, on_done, off_not, off_done}
-use Rattle.core_first.proofs.CoreServes.{done, still, numbered, put_free, assume_free, on_fault, on_free, off_fault, off_free, on_allowed, says_up, told_free}
-use Rattle.core_first.proofs.CoreTogether.{linked_of, of_linked, bare_number, bare_full, on_first, on_second, off_both, off_second, off_first, rest_on, rest_off, first_off, to_first, now_first, together_text, together_joined, together_first, together_second, together_counted, nothing_both}
+use Rattle.core_first.proofs.CoreServes.{done, numbered, put_free, assume_free, on_fault, on_free, off_fault, off_free, on_allowed, says_up, told_free}
+use Rattle.core_first.proofs.CoreTogether.{bare_number, bare_full, on_first, on_second, off_both, off_first, rest_on, rest_off, first_off, to_first, now_first, together_text, together_joined, together_first, together_second, together_counted, nothing_both}
 
 -- both sides are what they are said to be
 at_both : {p p' r r' m : Meaning} → p' ≡ p → r' ≡ r → Together p r m → Together p' r' m

@@ -1,6 +1,6 @@
 -- A side that serves a meaning: what it refuses, what it answers, and that it goes on serving.
 use Rattle.std.proofs.Common.{◌≡◌, ℕ, ◌+◌, ◌≤◌, Bool, true, false, cond, not, ◌||◌, eqb, ltb, leb, List, [], ◌∷◌, ◌++◌, length, Some, None, Ok, Err, Option, Result, sym, refl, ap, ◌∙◌, subst, arith}
-use Rattle.std.proofs.lemmas.Bool.{or_parts, or_from, leb-false, lt-leb, ltb-false, le-ltb, eqb-false, not-false, cond-false}
+use Rattle.std.proofs.lemmas.Bool.{or_parts, or_from, leb-false, lt-leb, ltb-false, le-ltb, eqb-false, not-false}
 use Rattle.std.proofs.lemmas.List.{map_push}
 use Rattle.cnf.specs.declared.literals.Literal.{Literal}
 use Rattle.cnf.specs.declared.faults.ClauseFault.TheVariants.{OutOfRange}

@@ -1,5 +1,5 @@
 -- What the sides of a core-first engine do, and what the whole stands for.
-use Rattle.std.specs.Prelude.{◌≡◌, ℕ, Bool, true, false, None, Ok, Option, Result, ◌≢◌}
+use Rattle.std.specs.Prelude.{◌≡◌, ℕ, true, false, None, Ok, Option, Result, ◌≢◌}
 use Rattle.engine.specs.declared.answers.Answer.{Answer}
 use Rattle.engine.specs.declared.answers.Answer.TheVariants.{Nothing}
 use Rattle.engine.specs.declared.faults.EngineFault.{EngineFault}

@@ -36,10 +36,10 @@ pub does_keeps : {T : Type 0} (P : Meaning → Type 0) (refusal : Option EngineF
 does_keeps P refusal before after (Ok x) m p q d = subst P (sym d.1) (q d.0)
 does_keeps P refusal before after (Err e) m p q d = subst P (sym d.1) p
 
-get_d_in : {A : Type 0} (xs : List A) (k : ℕ) (d : A) → k < length xs → get_or xs k d ∈ xs
-get_d_in [] k d h = absurd (omega arith)
-get_d_in (x ∷ xs) zero d h = here refl
-get_d_in (x ∷ xs) (suc k) d h = there (get_d_in xs k d (omega arith))
+get_or_in : {A : Type 0} (xs : List A) (k : ℕ) (d : A) → k < length xs → get_or xs k d ∈ xs
+get_or_in [] k d h = absurd (omega arith)
+get_or_in (x ∷ xs) zero d h = here refl
+get_or_in (x ∷ xs) (suc k) d h = there (get_or_in xs k d (omega arith))
 
 pub literals_push : (cs : List Clause) (c : Clause) → literals (cs ++ c ∷ []) ≡ literals cs + length c
 literals_push [] c = omega arith
@@ -72,7 +72,7 @@ module _ (m : Meaning) (well : WellFormed m) where
   on_clause (suc k) o =
       let h = mark_within m.on k o in
       let e = well.marks in
-      well.clauses (get_or m.texts k []) (get_d_in m.texts k [] (omega arith))
+      well.clauses (get_or m.texts k []) (get_or_in m.texts k [] (omega arith))
 
   -- a forced literal is in range, and its variable has no value
   pub forced_inside : (n : ℕ) (l : Literal) → On m n → Forces (values m) (text_of m n) l → outside highest l ≡ false

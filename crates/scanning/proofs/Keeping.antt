@@ -1,7 +1,7 @@
 -- The rows and places of a scanning engine: what is read there, and what is written.
-use Rattle.std.proofs.Common.{◌≡◌, ℕ, zero, suc, ◌+◌, ◌-◌, ◌<◌, ◌≤◌, Bool, true, false, ◌≢◌, List, [], ◌∷◌, ◌++◌, map, length, get_or, take, drop, set, sym, refl, ap, ◌∙◌, subst, ⊎_elim, add-zero, add_assoc, arith}
+use Rattle.std.proofs.Common.{◌≡◌, ℕ, zero, suc, ◌+◌, ◌-◌, ◌<◌, ◌≤◌, Bool, false, List, [], ◌∷◌, ◌++◌, map, length, get_or, take, drop, set, sym, refl, ap, ◌∙◌, subst, ⊎_elim, add-zero, add_assoc, arith}
 use Rattle.std.proofs.lemmas.Bool.{cases_eq}
-use Rattle.std.proofs.lemmas.List.{append-nil, append_assoc, take-append-drop, length-append, length-take-le, length-drop, length-set, length-map, drop_more, take_more, take_more_set, set_at, take_at, drop_at, drop-take, take-take, get_or-map, get_or-take, get_or-set_same, get_or-set_other, map_push}
+use Rattle.std.proofs.lemmas.List.{append-nil, append_assoc, take-append-drop, length-append, length-take-le, length-drop, length-map, drop_more, take_more, take_more_set, set_at, take_at, drop_at, drop-take, take-take, get_or-map, get_or-take, get_or-set_same, get_or-set_other, map_push}
 use Rattle.cnf.specs.declared.literals.Literal.{Literal}
 use Rattle.cnf.specs.Clauses.{Clause}
 use Rattle.engine.specs.Meaning.{text_in, mark_in}

@@ -1,4 +1,4 @@
-use Rattle.std.proofs.Common.{◌≡◌, refl}
+use Rattle.std.proofs.Common.{refl}
 use Rattle.engine.specs.Meaning.{empty}
 use Rattle.engine.proofs.Refusing.{alike}
 use Rattle.engine.proofs.Keeping.{empty_well}

@@ -1,4 +1,3 @@
-use Rattle.std.proofs.Common.{◌≡◌}
 use Rattle.engine.specs.Meaning.{answered}
 use Rattle.core_first.proofs.CoreTogether.{linked_of, of_linked}
 use Rattle.core_first.proofs.CoreCalls.{ask_first}

@@ -1,8 +1,8 @@
-use Rattle.std.proofs.Common.{◌≡◌, ◌<◌, List, [], ◌∷◌, ◌++◌, length, Ok, sym, refl, ap, ◌∙◌, subst}
+use Rattle.std.proofs.Common.{◌<◌, List, length, Ok, sym, ap, ◌∙◌, subst}
 use Rattle.cnf.proofs.Derivations.{forced_new}
 use Rattle.engine.specs.declared.answers.Entry.{Entry}
 use Rattle.engine.specs.declared.answers.Answer.TheVariants.{Forced}
-use Rattle.engine.specs.Meaning.{Meaning, values, text_of, with_trail, joined_by, entry, counted, answered}
+use Rattle.engine.specs.Meaning.{Meaning, values, text_of, with_trail, joined_by}
 use Rattle.engine.proofs.Refusing.{trial_done}
 use Rattle.engine.proofs.Consistent.{trail_room}
 use Rattle.engine.proofs.Keeping.{forced_inside, next_well}

@@ -1,4 +1,4 @@
-use Rattle.std.proofs.Common.{◌≡◌, ◌+◌, List, get_or, set, sym, refl, ap, ◌∙◌}
+use Rattle.std.proofs.Common.{◌+◌, List, get_or, set, sym, refl, ap, ◌∙◌}
 use Rattle.std.proofs.lemmas.List.{take_all}
 use Rattle.cnf.specs.declared.literals.Literal.{Literal}
 use Rattle.cnf.proofs.Ascents.{nobody}

@@ -1,6 +1,6 @@
-use Rattle.std.proofs.Common.{◌≡◌, List, [], sym, refl, ap, subst, arith}
+use Rattle.std.proofs.Common.{List, sym, refl, ap, subst, arith}
 use Rattle.engine.specs.declared.answers.Entry.{Entry}
-use Rattle.engine.specs.Meaning.{Meaning, with_trail, empty, WellFormed}
+use Rattle.engine.specs.Meaning.{with_trail, empty, WellFormed}
 use Rattle.engine.proofs.Keeping.{empty_well}
 use Rattle.scanning.proofs.Scanning.empty.Goals as goal
 

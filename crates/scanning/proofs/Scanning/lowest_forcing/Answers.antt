@@ -1,4 +1,4 @@
-use Rattle.std.proofs.Common.{◌≡◌, ◌+◌, sym, refl, ◌∙◌, arith}
+use Rattle.std.proofs.Common.{◌+◌, refl, arith}
 use Rattle.cnf.specs.declared.literals.Literal.{Literal}
 use Rattle.cnf.specs.Propagation.{Forces}
 use Rattle.engine.specs.Meaning.{is_on, values, text_of}
@@ -21,7 +21,7 @@ pub loop-i-preserved : goal.loop-i-preserved
 loop-i-preserved c =
     let m = scan_meaning c.args.self.now in
     none_more (λ k. (j : Literal) × ForcesAt m k j) c.loop-i.i c.loop-i.invariant
-    (λ q. forces_none m (c.loop-i.i + 1) c.in-default.ensures q.0 q.1)
+    (λ q. forces_none m (c.loop-i.i + 1) c.in_default.ensures q.0 q.1)
 
 pub returns : goal.returns
 returns c k l f = let h = on_low c.args.self.now c.requires k f.0 in c.loop-i.invariant k (omega (arith, c.loop-i-test.false)) (l, f)

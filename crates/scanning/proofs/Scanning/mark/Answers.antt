@@ -1,4 +1,4 @@
-use Rattle.std.proofs.Common.{◌≡◌, Bool, Some, sym, ap, ◌∙◌, arith}
+use Rattle.std.proofs.Common.{Bool, Some, sym, ap, ◌∙◌, arith}
 use Rattle.std.proofs.lemmas.Bool.{cond-true, cond-false}
 use Rattle.scanning.proofs.Reading.{no_text_low, no_text_high, has_text, on_is}
 use Rattle.scanning.proofs.Scanning.mark.Goals as goal

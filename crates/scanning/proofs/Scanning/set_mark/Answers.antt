@@ -1,8 +1,8 @@
-use Rattle.std.proofs.Common.{◌≡◌, ◌-◌, sym, refl, ap, ◌∙◌, arith}
+use Rattle.std.proofs.Common.{◌-◌, refl, ap, ◌∙◌, arith}
 use Rattle.std.proofs.lemmas.List.{length-set}
 use Rattle.cnf.specs.Clauses.{literals}
 use Rattle.engine.proofs.Refusing.{alike}
-use Rattle.scanning.specs.Store.{blank_row, scan_meaning}
+use Rattle.scanning.specs.Store.{blank_row}
 use Rattle.scanning.proofs.Keeping.{texts_marked, marks_marked, placed_marked}
 use Rattle.scanning.proofs.Scanning.set_mark.Goals as goal
 

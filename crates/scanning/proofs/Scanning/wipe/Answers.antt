@@ -1,4 +1,4 @@
-use Rattle.std.proofs.Common.{◌≡◌, Ok, refl, arith}
+use Rattle.std.proofs.Common.{Ok, refl, arith}
 use Rattle.engine.specs.Meaning.{cleared}
 use Rattle.engine.proofs.Refusing.{alike, shut_done}
 use Rattle.engine.proofs.Keeping.{clears_well}

@@ -1,4 +1,4 @@
-use Rattle.std.proofs.Common.{◌≡◌, Ok, refl}
+use Rattle.std.proofs.Common.{Ok, refl}
 use Rattle.engine.specs.Meaning.{cleared}
 use Rattle.core_first.specs.CoreSides.{core_meaning}
 use Rattle.engine.proofs.Refusing.{alike, shut_done}

@@ -1,4 +1,4 @@
-use Rattle.std.proofs.Common.{◌≡◌, refl}
+use Rattle.std.proofs.Common.{refl}
 use Rattle.cnf.proofs.Derivations.{forced_new}
 use Rattle.engine.specs.declared.answers.Answer.TheVariants.{Forced}
 use Rattle.engine.specs.Meaning.{values, text_of, answered}
@@ -27,13 +27,13 @@ returns-in-Forced g c =
     let a = Forced c.in-Forced.literal c.in-Forced.number in
     let whole = c.requires.whole in
     let opened = c.if-not-self.false in
-    let z = c.next_answer.new.self in
+    let z = c.next-answer.new.self in
     let p = g.P.Engine.meaning z.preferred in
     let r = g.R.Engine.meaning z.rest in
     let q = c.in-Forced.ensures.answers m opened whole.backed in
     let after = alike {n = answered m a} (held_texts_lem z.linked p r (answered m a) q.1) (held_marks_lem z.linked p r (answered m a) q.1) c.push.ensures.joined refl c.saturating_add-self.ensures refl refl in
     record {
       does = (trial_done m opened, q.0, after);
-      stays = record { both = c.next_answer.ensures.stays; whole = whole_at after q.1 (answered_well m whole.well opened a q.0) c.push.ensures.tidy whole.text_count whole.literal_count };
+      stays = record { both = c.next-answer.ensures.stays; whole = whole_at after q.1 (answered_well m whole.well opened a q.0) c.push.ensures.tidy whole.text_count whole.literal_count };
       picked = tt;
     }

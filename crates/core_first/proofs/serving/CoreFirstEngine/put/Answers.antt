@@ -13,16 +13,16 @@ pub returns-then-not-has_room : goal.returns-then-not-has_room
 returns-then-not-has_room g c =
     let m = core_meaning g.P.Engine.meaning g.R.Engine.meaning c.args.self.now in
     let ls = c.args.literals.now in
-    let text = c.in-ok-text.text.now in
-    let clause : arrangement highest ls ≡ Ok text = sym c.arrange-draft.ensures.outcome ∙ sym c.in-ok-text.ensures in
+    let text = c.in_ok-text.text.now in
+    let clause : arrangement highest ls ≡ Ok text = sym c.arrange-draft.ensures.outcome ∙ sym c.in_ok-text.ensures in
     record { does = (put_full m ls text c.if-self.false clause (sym c.if-not-has_room.ensures), refl); stays = c.requires }
 
 pub returns : goal.returns
 returns g c =
     let m = core_meaning g.P.Engine.meaning g.R.Engine.meaning c.args.self.now in
     let ls = c.args.literals.now in
-    let text = c.in-ok-text.text.now in
-    let clause : arrangement highest ls ≡ Ok text = sym c.arrange-draft.ensures.outcome ∙ sym c.in-ok-text.ensures in
+    let text = c.in_ok-text.text.now in
+    let clause : arrangement highest ls ≡ Ok text = sym c.arrange-draft.ensures.outcome ∙ sym c.in_ok-text.ensures in
     let free = put_done m ls text c.if-self.false clause (sym c.if-not-has_room.ensures) in
     let whole = c.requires.whole in
     let z = c.put.new.self in
