@@ -26,10 +26,10 @@ take_bare zero rows = refl
 take_bare (suc n) [] = refl
 take_bare (suc n) (r ∷ rows) = ap (λ (t : List ClauseRow). bare r ∷ t) (take_bare n rows)
 
-pub get_d_bare : (rows : List ClauseRow) (k : ℕ) → get_or (map bare rows) k blank_row ≡ bare (get_or rows k blank_row)
-get_d_bare [] k = refl
-get_d_bare (r ∷ rows) zero = refl
-get_d_bare (r ∷ rows) (suc k) = get_d_bare rows k
+pub get_or_bare : (rows : List ClauseRow) (k : ℕ) → get_or (map bare rows) k blank_row ≡ bare (get_or rows k blank_row)
+get_or_bare [] k = refl
+get_or_bare (r ∷ rows) zero = refl
+get_or_bare (r ∷ rows) (suc k) = get_or_bare rows k
 
 -- marks change nothing else
 marked_bare : (rows : List ClauseRow) (k : ℕ) → map bare (set rows k (kept_row (get_or rows k blank_row))) ≡ map bare rows

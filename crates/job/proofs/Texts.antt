@@ -52,8 +52,8 @@ module _ (rows : List ClauseRow) (lits : List Literal) (c : ℕ) (room : c ≤ l
   pub length_texts : length (texts_in rows lits c) ≡ c
   length_texts = length-map (take c rows) (clause_at lits) ∙ length-take-le c rows room
 
-  pub get_d_texts : (k : ℕ) → k < c → get_or (texts_in rows lits c) k [] ≡ clause_at lits (get_or rows k blank_row)
-  get_d_texts k h =
+  pub get_or_texts : (k : ℕ) → k < c → get_or (texts_in rows lits c) k [] ≡ clause_at lits (get_or rows k blank_row)
+  get_or_texts k h =
       let e = length-take-le c rows room in
       get_or-map (clause_at lits) (take c rows) k blank_row [] (omega arith) ∙ ap (clause_at lits) (get_or-take c rows k blank_row h)
 
@@ -62,7 +62,7 @@ module _ (rows : List ClauseRow) (lits : List Literal) (c : ℕ) (room : c ≤ l
   text_at zero low high = absurd (omega arith)
   text_at (suc k) low high =
       let e : suc k - 1 ≡ k = omega arith in
-      get_d_texts k (omega arith) ∙ ap (λ (j : ℕ). clause_at lits (get_or rows j blank_row)) (sym e)
+      get_or_texts k (omega arith) ∙ ap (λ (j : ℕ). clause_at lits (get_or rows j blank_row)) (sym e)
 
   -- the literals in use are those of the clauses
   pub laid_literals : (n end : ℕ) → n ≤ c → end ≤ length lits → laid_to rows n end ≡ true → literals (down_from (text_in (texts_in rows lits c)) n) ≡ end
@@ -71,7 +71,7 @@ module _ (rows : List ClauseRow) (lits : List Literal) (c : ℕ) (room : c ≤ l
       let p = laid_last rows n end e in
       let q = p.0 in
       let below = laid_literals n (get_or rows n blank_row).start (omega arith) (omega arith) p.1 in
-      let len = ap length (get_d_texts n h) ∙ length_clause lits (get_or rows n blank_row) (omega arith) in
+      let len = ap length (get_or_texts n h) ∙ length_clause lits (get_or rows n blank_row) (omega arith) in
       omega arith
 
 -- rows with the same clauses
@@ -81,7 +81,7 @@ pub texts_same : (rows rows' : List ClauseRow) (lits lits' : List Literal) (c : 
 texts_same rows rows' lits lits' c room room' same =
     let e = length_texts rows lits c room in
     ext_get_or [] (texts_in rows lits c) (texts_in rows' lits' c) (e ∙ sym (length_texts rows' lits' c room'))
-    (λ k h. get_d_texts rows lits c room k (omega arith) ∙ same k (omega arith) ∙ sym (get_d_texts rows' lits' c room' k (omega arith)))
+    (λ k h. get_or_texts rows lits c room k (omega arith) ∙ same k (omega arith) ∙ sym (get_or_texts rows' lits' c room' k (omega arith)))
 
 -- one clause fewer
 pub text_before : (rows : List ClauseRow) (lits : List Literal) (c : ℕ) → suc c ≤ length rows

@@ -15,7 +15,7 @@ use Rattle.job.specs.History.{step_of, inputs_of, before, steps_of}
 use Rattle.job.specs.Sound.{laid_to, Rising, is_next, Sound}
 use Rattle.job.specs.Calls.{struck_at, last_step, without}
 use Rattle.job.proofs.Histories.{inputs_within, strike_none, next_lemma, next_strike}
-use Rattle.job.proofs.Texts.{get_d_texts, laid_last, text_before}
+use Rattle.job.proofs.Texts.{get_or_texts, laid_last, text_before}
 use Rattle.job.proofs.Keeping.{same_inputs, same_before, same_numbered, same_unended}
 use Rattle.job.proofs.Strikes.{struck_row, texts_struck, laid_struck, dated_strike}
 
@@ -99,7 +99,7 @@ module _ (s : View) (o : Sound s) (some : 0 < s.taken) where
           laid = l.1;
           rising = λ k h.
               ap (ascending 0 s.variables)
-              (get_d_texts s.rows s.lits (n - 1) (omega arith) k h ∙ sym (get_d_texts s.rows s.lits s.clauses (omega arith) k (omega arith)))
+              (get_or_texts s.rows s.lits (n - 1) (omega arith) k h ∙ sym (get_or_texts s.rows s.lits s.clauses (omega arith) k (omega arith)))
               ∙ o.rising k (omega arith);
           complete =
               (let c : n - 1 ≡ length (table (inputs_of s) (before s (s.taken - 1))) = omega arith in

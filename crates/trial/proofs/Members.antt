@@ -11,15 +11,15 @@ use Rattle.trial.specs.Numbered.{Numbered}
 use Rattle.trial.specs.Gathering.{AllWithin, AllKnown}
 use Rattle.trial.proofs.Noting.{latest_has}
 
-pub get_d_in : {A : Type 0} (xs : List A) (k : ℕ) (d : A) → k < length xs → get_or xs k d ∈ xs
-get_d_in [] k d h = absurd (omega arith)
-get_d_in (x ∷ xs) zero d h = here refl
-get_d_in (x ∷ xs) (suc k) d h = there (get_d_in xs k d (omega arith))
+pub get_or_in : {A : Type 0} (xs : List A) (k : ℕ) (d : A) → k < length xs → get_or xs k d ∈ xs
+get_or_in [] k d h = absurd (omega arith)
+get_or_in (x ∷ xs) zero d h = here refl
+get_or_in (x ∷ xs) (suc k) d h = there (get_or_in xs k d (omega arith))
 
 -- the clause with a number is one of the clauses
 pub text_in_table : (clauses : List Clause) (n : ℕ) → Numbered clauses n → text_in clauses n ∈ clauses
 text_in_table clauses zero h = absurd (omega arith)
-text_in_table clauses (suc k) h = get_d_in clauses k [] (omega arith)
+text_in_table clauses (suc k) h = get_or_in clauses k [] (omega arith)
 
 -- so its variables are in range
 pub clause_within : (clauses : List Clause) (n : ℕ) (c : Clause) → c ≡ text_in clauses n → AllWithin clauses → Numbered clauses n → Within highest c

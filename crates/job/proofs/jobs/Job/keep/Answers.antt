@@ -1,5 +1,5 @@
 use Rattle.std.proofs.Common.{◌-◌, get_or, refl, ap, arith}
-use Rattle.trial.proofs.Members.{get_d_in}
+use Rattle.trial.proofs.Members.{get_or_in}
 use Rattle.job.specs.View.{View, blank_row}
 use Rattle.job.specs.Seen.{view}
 use Rattle.job.specs.CheckLists.{kept_row}
@@ -9,12 +9,12 @@ use Rattle.job.proofs.jobs.Job.keep.Goals as goal
 
 pub overflow_sub-place : goal.overflow_sub-place
 overflow_sub-place c =
-    let z = c.requires (get_or c.args.numbers.now c.loop-j.j 0) (get_d_in c.args.numbers.now c.loop-j.j 0 c.loop-j-test.true) in
+    let z = c.requires (get_or c.args.numbers.now c.loop-j.j 0) (get_or_in c.args.numbers.now c.loop-j.j 0 c.loop-j-test.true) in
     z.0
 
 pub bounds-self-place : goal.bounds-self-place
 bounds-self-place c =
-    let z = c.requires (get_or c.args.numbers.now c.loop-j.j 0) (get_d_in c.args.numbers.now c.loop-j.j 0 c.loop-j-test.true) in
+    let z = c.requires (get_or c.args.numbers.now c.loop-j.j 0) (get_or_in c.args.numbers.now c.loop-j.j 0 c.loop-j-test.true) in
     let j = c.loop-j.self in
     let e = ap (λ (v : View). v.clauses) c.loop-j.invariant.1 in
     let a = j.rooms.0 in
