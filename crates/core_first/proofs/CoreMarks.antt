@@ -31,16 +31,16 @@ either_push [] (y ∷ ys) h = absurd (omega arith)
 either_push (x ∷ xs) [] h = absurd (omega arith)
 either_push (x ∷ xs) (y ∷ ys) h = ap (λ (vs : List Bool). (x || y) ∷ vs) (either_push xs ys (omega arith))
 
-get_d_either : (xs ys : List Bool) (i : ℕ) → length xs ≡ length ys → get_or (either xs ys) i false ≡ (get_or xs i false || get_or ys i false)
-get_d_either [] [] i h = refl
-get_d_either [] (y ∷ ys) i h = absurd (omega arith)
-get_d_either (x ∷ xs) [] i h = absurd (omega arith)
-get_d_either (x ∷ xs) (y ∷ ys) zero h = refl
-get_d_either (x ∷ xs) (y ∷ ys) (suc i) h = get_d_either xs ys i (omega arith)
+get_or_either : (xs ys : List Bool) (i : ℕ) → length xs ≡ length ys → get_or (either xs ys) i false ≡ (get_or xs i false || get_or ys i false)
+get_or_either [] [] i h = refl
+get_or_either [] (y ∷ ys) i h = absurd (omega arith)
+get_or_either (x ∷ xs) [] i h = absurd (omega arith)
+get_or_either (x ∷ xs) (y ∷ ys) zero h = refl
+get_or_either (x ∷ xs) (y ∷ ys) (suc i) h = get_or_either xs ys i (omega arith)
 
 pub mark_either : (xs ys : List Bool) (n : ℕ) → length xs ≡ length ys → mark_in (either xs ys) n ≡ (mark_in xs n || mark_in ys n)
 mark_either xs ys zero h = refl
-mark_either xs ys (suc k) h = get_d_either xs ys k h
+mark_either xs ys (suc k) h = get_or_either xs ys k h
 
 -- a mark by its number, and by its place
 at_number : (xs : List Bool) (n : ℕ) → 1 ≤ n → mark_in xs n ≡ get_or xs (n - 1) false
