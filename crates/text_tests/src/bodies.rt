@@ -1,6 +1,6 @@
 //! Clauses: their order, their faults, and long ones.
 use crate::prints::prints;
-use std::process::Abort;
+use std::alloc::Global;
 use std::test::Fail;
 
 #[test]
@@ -27,25 +27,25 @@ fn clauses(rt: HostRuntime) -> Result<(), Fail> {
         (b"p cnf 2 1\n2 1 2 1 0", b"refused 5 14\n"),
         (b"p cnf 0 1\n1 0", b"refused 4 10\n"),
     ] {
-        prints(&rt, text, expected)?;
+        prints(rt.alloc(), text, expected)?;
     }
     Ok(())
 }
 
 /// A clause of five thousand literals `1`, and then these words.
-fn long(rt: &(impl Abort + AllocGlobal), last: &[u8], expected: &[u8]) -> Result<(), Fail> {
-    let mut text = b"p cnf 1 1\n".to_vec(rt.alloc())?;
+fn long(heap: Global, last: &[u8], expected: &[u8]) -> Result<(), Fail> {
+    let mut text = b"p cnf 1 1\n".to_vec(heap)?;
     for _ in 0..5000u16 {
         text.extend_from_slice(b"1 ")?;
     }
     text.extend_from_slice(last)?;
-    prints(rt, &text, expected)
+    prints(heap, &text, expected)
 }
 
 #[test]
 fn long_clauses(rt: HostRuntime) -> Result<(), Fail> {
-    long(&rt, b"0", b"refused 5 12\n")?;
-    long(&rt, b"2 0", b"refused 4 10010\n")?;
-    long(&rt, b"x 0", b"refused 1 10010\n")?;
-    long(&rt, b"2", b"refused 3 10011\n")
+    long(rt.alloc(), b"0", b"refused 5 12\n")?;
+    long(rt.alloc(), b"2 0", b"refused 4 10010\n")?;
+    long(rt.alloc(), b"x 0", b"refused 1 10010\n")?;
+    long(rt.alloc(), b"2", b"refused 3 10011\n")
 }

@@ -30,7 +30,7 @@ fn headings(rt: HostRuntime) -> Result<(), Fail> {
         (b"\xffp cnf 0 0", b"refused 1 0\n"),
         (b"p\x00 cnf 0 0", b"refused 1 0\n"),
     ] {
-        prints(&rt, text, expected)?;
+        prints(rt.alloc(), text, expected)?;
     }
     Ok(())
 }
@@ -52,7 +52,7 @@ fn ends(rt: HostRuntime) -> Result<(), Fail> {
         (b"p cnf 3 1\n1 -2 \nc 0", b"refused 3 19\n"),
         (b"p cnf 3 1\n-2 1 0", b"p cnf 3 1\n1 -2 0\n"),
     ] {
-        prints(&rt, text, expected)?;
+        prints(rt.alloc(), text, expected)?;
     }
     Ok(())
 }

@@ -17,7 +17,7 @@ fn forms(rt: HostRuntime) -> Result<(), Fail> {
         (b"p cnf 3 1\n1 -0", b"refused 1 12\n"),
         (b"p cnf 3 1\n1 00", b"refused 1 12\n"),
     ] {
-        prints(&rt, text, expected)?;
+        prints(rt.alloc(), text, expected)?;
     }
     Ok(())
 }
@@ -39,7 +39,7 @@ fn sizes(rt: HostRuntime) -> Result<(), Fail> {
         (b"p cnf 3 18446744073709551616\n1 0", b"refused 2 32\n"),
         (b"p cnf 3 4294967297\n1 0\n2 x", b"refused 1 25\n"),
     ] {
-        prints(&rt, text, expected)?;
+        prints(rt.alloc(), text, expected)?;
     }
     Ok(())
 }

@@ -1,16 +1,22 @@
 //! Compares a print with what it should be.
-use std::process::Abort;
+use std::alloc::Global;
 use std::test::Fail;
 use text::standard::{PrintFault, print_standard};
 
 /// The text prints as this, and leaves the bytes after it alone.
-pub fn prints(rt: &(impl Abort + AllocGlobal), text: &[u8], expected: &[u8]) -> Result<(), Fail> {
+pub fn prints(heap: Global, text: &[u8], expected: &[u8]) -> Result<(), Fail> {
     let mut out = [7u8; 128];
-    match print_standard(rt.alloc(), text, &mut out) {
+    match print_standard(heap, text, &mut out) {
         Ok(end) => {
-            assert!(rt; end <= 128);
-            assert!(rt; &out[0..end] == expected);
-            assert!(rt; end == 128 || out[127] == 7);
+            if end > 128 {
+                return Err(Fail::new("the print ends beyond its list"));
+            }
+            if &out[0..end] != expected {
+                return Err(Fail::new("another print"));
+            }
+            if end < 128 && out[127] != 7 {
+                return Err(Fail::new("a byte after the print is written"));
+            }
             Ok(())
         }
         Err(PrintFault::NoRoom) => Err(Fail::new("no room")),
