@@ -71,8 +71,8 @@ job_a_lem =
     let second : List Forced = by (pos 1) 1 ∷ [] in
     let end =
     kept_outcome (1 ∷ 2 ∷ 3 ∷ 4 ∷ 6 ∷ 8 ∷ []) 8 (row 6 (1 ∷ 2 ∷ []) ∷ row 8 (6 ∷ 3 ∷ 4 ∷ []) ∷ []) (counts 4 2 5 5) refl refl in
-    let at-lemma = inr (inl (refl, second, 2, live_conflict m.inputs [] (neg 2 ∷ []) second 2 refl, end)) in
-    inr (inl (refl, first, 4, live_conflict m.inputs before [] first 4 refl, inl (refl, at-lemma)))
+    let at_lemma = inr (inl (refl, second, 2, live_conflict m.inputs [] (neg 2 ∷ []) second 2 refl, end)) in
+    inr (inl (refl, first, 4, live_conflict m.inputs before [] first 4 refl, inl (refl, at_lemma)))
 
 -- nothing is live
 pub job_b_lem : Checks (machine_of job_b) job_b.outcome
@@ -97,8 +97,8 @@ job_d_lem =
     let second : List Forced = by (pos 1) 1 ∷ [] in
     let end =
     kept_outcome (1 ∷ 2 ∷ 3 ∷ 5 ∷ 6 ∷ 7 ∷ []) 7 (row 6 (1 ∷ 2 ∷ []) ∷ row 7 (3 ∷ 5 ∷ 6 ∷ []) ∷ []) (counts 4 2 5 5) refl refl in
-    let at-lemma = inr (inl (refl, second, 2, live_conflict m.inputs [] (neg 2 ∷ []) second 2 refl, end)) in
-    inr (inl (refl, first, 6, live_conflict m.inputs before [] first 6 refl, at-lemma))
+    let at_lemma = inr (inl (refl, second, 2, live_conflict m.inputs [] (neg 2 ∷ []) second 2 refl, end)) in
+    inr (inl (refl, first, 6, live_conflict m.inputs before [] first 6 refl, at_lemma))
 
 -- the lemma forces 1, and then both clauses are true
 job_e_lem : Checks (machine_of job_e) job_e.outcome

@@ -293,14 +293,14 @@ reported m v r w b =
     let all = lemmas_counted v.kept m.inputs m.steps [] in
     let each = length-map v.rows (λ row. row.lemma_number) in
     let same = ap length order in
-    let arcs-said : r.arc_count ≡ arcs v.rows = ap (λ (x : Report). x.arc_count) said in
-    let lemmas-said : r.lemma_count ≡ length v.rows = ap (λ (x : Report). x.lemma_count) said in
+    let arcs_said : r.arc_count ≡ arcs v.rows = ap (λ (x : Report). x.arc_count) said in
+    let lemmas_said : r.lemma_count ≡ length v.rows = ap (λ (x : Report). x.lemma_count) said in
     let h = visited.answered in
     let few = visited.few in
     record {
       inputs_kept = ap (λ (x : Report). x.input_count) said;
       lemmas_kept = omega arith;
-      arcs_drawn = arcs-said;
+      arcs_drawn = arcs_said;
       arcs_answered = omega arith;
       answers_few = omega arith;
     }

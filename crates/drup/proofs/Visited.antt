@@ -152,8 +152,8 @@ module _ (m : Machine) where
   visited_all [] so_far count verdict r v e =
       let same : so_far ≡ verdict = cc in
       let said : report m.inputs so_far count ≡ r = cc in
-      let last-count : count ≡ r.answer_count = ap (λ (x : Report). x.answer_count) said in
-      (rw (← same, ← last-count) v, sym said ∙ (λ i. report m.inputs (same i) (last-count i)))
+      let last_count : count ≡ r.answer_count = ap (λ (x : Report). x.answer_count) said in
+      (rw (← same, ← last_count) v, sym said ∙ (λ i. report m.inputs (same i) (last_count i)))
   visited_all (struck n ∷ earlier) so_far count verdict r v b =
       visited_all earlier so_far count verdict r (pass (struck n) earlier so_far count v) b
   visited_all (learned c ∷ earlier) so_far count verdict r v (inl (k, b)) =

@@ -111,11 +111,11 @@ module _ (s : View) (o : Sound s) (ls : List Literal) where
       accepted (Err fault) e now bad = let z : ◌≡◌ {A = ℕ} 0 1 = cc in absurd (omega arith)
       accepted (Ok n) e now ok =
           let (b, (t, (first, (f, u)))) = unbroken (rules (machine_of s) (clause ls)) (omega arith) (sym e) in
-          let zero-steps = ltb-false 0 s.taken (sym (begun_taken (text_in (texts s)) s.steps s.taken) ∙ first) in
-          let none-taken : s.taken ≡ 0 = omega arith in
+          let zero_steps = ltb-false 0 s.taken (sym (begun_taken (text_in (texts s)) s.steps s.taken) ∙ first) in
+          let none_taken : s.taken ≡ 0 = omega arith in
           let room = room_left f in
-          let i = inputs_input s o (arranged ls) none-taken room.0 room.1 in
-          let st = steps_input s o (arranged ls) none-taken room.0 room.1 in (
+          let i = inputs_input s o (arranged ls) none_taken room.0 room.1 in
+          let st = steps_input s o (arranged ls) none_taken room.0 room.1 in (
             ap machine_of now
                 ∙ (λ x. record { variables = s.variables; clause_places = s.places; literal_places = s.room; inputs = i x; steps = st x }),
             ap (λ (v : View). v.judged) now,
