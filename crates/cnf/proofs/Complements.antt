@@ -1,15 +1,18 @@
 -- Literals: what tells them apart, and the truth of a literal and its complement.
-use Rattle.std.proofs.Common.{◌≡◌, ℕ, Bool, true, false, not, eqb, ◌⊎◌, List, [], ◌∷◌, sym, refl, ap, ◌∙◌, inl, inr, true≢false}
+use Rattle.std.proofs.Common.{◌≡◌, ℕ, Bool, true, false, not, eqb, ◌⊎◌, List, [], ◌∷◌, sym, refl, ap, ◌∙◌, subst, inl, inr, true≢false}
 use mathlib.Core.Bool.{beq, false≢true}
 use mathlib.Core.List.Memᴰ
 use mathlib.Core.List.Memᴰ.{head as here}
 use mathlib.Core.List.Memᴰ.{tail as there}
-use Rattle.std.proofs.lemmas.Bool.{and_parts, cases_Bool, eqb-true, eq-eqb, or_cases}
+use Rattle.std.specs.Cmp.{booleans_Decides}
+use Rattle.std.specs.List.{list_any}
+use Rattle.std.proofs.lemmas.Bool.{and_parts, cases_Bool, eqb-true, eq-eqb}
 use Rattle.cnf.specs.declared.literals.Literal.{Literal}
 use Rattle.cnf.specs.Literals.{complement, same_literal}
 use Rattle.cnf.specs.Clauses.{Clause, ◌∈◌, Assignment, IsTrue, Satisfies}
 use Rattle.cnf.specs.Arranging.{names}
 use Rattle.cnf.proofs.Arranging.{all_cons}
+use Rattle.cnf.proofs.Passing.{any_passes, some_passes}
 
 -- a literal is its variable and its sign
 pub literal_path : {k l : Literal} → k.variable ≡ l.variable → k.negated ≡ l.negated → k ≡ l
@@ -19,20 +22,13 @@ literal_path p q = λ i. record { variable = p i; negated = q i }
 pub same_literal_true : (k l : Literal) → same_literal k l ≡ true → k ≡ l
 same_literal_true k l e =
     let h = and_parts (eqb k.variable l.variable) (beq k.negated l.negated) e in
-    literal_path (eqb-true k.variable l.variable h.0) (same_sign k.negated l.negated h.1)
-  where
-    same_sign : (a b : Bool) → beq a b ≡ true → a ≡ b
-    same_sign true true e = refl
-    same_sign true false e = absurd (false≢true e)
-    same_sign false true e = absurd (false≢true e)
-    same_sign false false e = refl
+    literal_path (eqb-true k.variable l.variable h.0) ((booleans_Decides k.negated l.negated).0 h.1)
 
 pub same_literal_self : (l : Literal) → same_literal l l ≡ true
-same_literal_self l = rw (eq-eqb l.variable l.variable refl) (same_sign l.negated)
-  where
-    same_sign : (a : Bool) → beq a a ≡ true
-    same_sign true = refl
-    same_sign false = refl
+same_literal_self l = rw (eq-eqb l.variable l.variable refl) ((booleans_Decides l.negated l.negated).1 refl)
+
+pub same_literal_decides : (k l : Literal) → (same_literal k l ≡ true → k ≡ l) × (k ≡ l → same_literal k l ≡ true)
+same_literal_decides k l = (same_literal_true k l, λ e. ap (same_literal k) (sym e) ∙ same_literal_self k)
 
 -- the complement of the complement
 pub complement_twice : (l : Literal) → complement (complement l) ≡ l
@@ -50,28 +46,26 @@ same_or_not k l =
       | inr e ↦ inr (λ p. true≢false (sym (same_literal_self l) ∙ ap (λ (x : Literal). same_literal x l) (sym p) ∙ e))
     ]
 
+-- the test of a list for a literal is right
+pub found_true : (l : Literal) (ls : List Literal) → list_any (same_literal l) ls ≡ true → l ∈ ls
+found_true l ls e =
+    let r = some_passes (same_literal l) ls e in
+    subst (λ (k : Literal). k ∈ ls) (sym (same_literal_true l r.0 r.2)) r.1
+
+pub found_has : {l : Literal} {ls : List Literal} → l ∈ ls → list_any (same_literal l) ls ≡ true
+found_has {l} m = any_passes (same_literal l) m (same_literal_self l)
+
 -- a literal stands in a list or does not
 pub stands_or_not : (l : Literal) (ls : List Literal) → (l ∈ ls) ⊎ (l ∈ ls → ⊥)
-stands_or_not l [] = inr Memᴰ.not-nil
-stands_or_not l (k ∷ ls) = go (same_or_not l k) (stands_or_not l ls)
-  where
-    apart : (l ≡ k → ⊥) → (l ∈ ls → ⊥) → l ∈ (k ∷ ls) → ⊥
-    apart d n (here e) = d e
-    apart d n (there m) = n m
-
-    go : (l ≡ k) ⊎ (l ≡ k → ⊥) → (l ∈ ls) ⊎ (l ∈ ls → ⊥) → (l ∈ (k ∷ ls)) ⊎ (l ∈ (k ∷ ls) → ⊥)
-    go (inl e) r = inl (here e)
-    go (inr d) (inl m) = inl (there m)
-    go (inr d) (inr n) = inr (apart d n)
+stands_or_not l ls =
+    elim (cases_Bool (list_any (same_literal l) ls)) [
+      | inl e ↦ inl (found_true l ls e)
+      | inr e ↦ inr (λ m. true≢false (sym (found_has m) ∙ e))
+    ]
 
 -- a variable that is named has a literal
 pub names_true : (x : ℕ) (ls : List Literal) → names x ls ≡ true → (k : Literal) × (k ∈ ls) × (k.variable ≡ x)
-names_true x [] e = absurd (false≢true e)
-names_true x (l ∷ ls) e =
-    elim (or_cases (eqb x l.variable) (names x ls) e) [
-      | inl p ↦ (l, here refl, sym (eqb-true x l.variable p))
-      | inr h ↦ let r = names_true x ls h in (r.0, there r.1, r.2)
-    ]
+names_true x ls e = let r = some_passes (λ l. eqb x l.variable) ls e in (r.0, r.1, sym (eqb-true x r.0.variable r.2))
 
 -- two literals of one variable are equal or complements
 pub same_variable : (k l : Literal) → k.variable ≡ l.variable → (k ≡ l) ⊎ (k ≡ complement l)

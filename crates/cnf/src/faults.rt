@@ -44,8 +44,7 @@ impl ClauseFault {
         ensures { result ≡ place_of self }
     {
         match self {
-            ClauseFault::OutOfRange { place } => place,
-            ClauseFault::Repeated { place } => place,
+            ClauseFault::OutOfRange { place } | ClauseFault::Repeated { place } => place,
         }
     }
 }

@@ -1,12 +1,14 @@
 //! A literal, its complement and the order of literals.
 ghost use Rattle.std.specs.Prelude.{◌≡◌};
 ghost use Rattle.cnf.specs.Literals.{complement, earlier};
+ghost use Rattle.cnf.specs.Order.{before};
+ghost use Rattle.cnf.specs.declared.literals.Literal.{Literal};
 ghost use Rattle.std.proofs.Common.{rules};
 
 use crate::order::TotalOrder;
 
 /// A variable or its negation. Variables count from 1; the variable 0 is none, and can still be written down.
-#[derive(Clone, Copy, PartialEq, Eq, Debug)]
+#[derive(Clone, Copy, PartialEq, Eq, PartialOrd, Ord, Default, Debug)]
 pub struct Literal {
     pub variable: u16,
     pub negated: bool,
@@ -17,26 +19,26 @@ impl Literal {
     pub fn complement(self) -> Literal
         ensures { result ≡ complement self }
     {
-        let negated = !self.negated;
         Literal {
-            variable: self.variable,
-            negated,
+            negated: !self.negated,
+            ..self
         }
     }
 }
 
+/// A literal with the number of the clause that forces it, or with 0 where it is assumed.
+#[derive(Clone, Copy, PartialEq, Eq, Default, Debug)]
+pub struct Forced {
+    pub literal: Literal,
+    pub number: u16,
+}
+
 /// By rising variable; of a variable's two literals the positive one comes first.
 impl TotalOrder for Literal {
-    ghost before = { earlier };
-
-    ghost irreflexive = { Prim.search rules };
-
-    ghost transitive = { Prim.search rules };
-
     ghost connected = { Prim.search rules };
-
-    fn is_before(&self, other: &Literal) -> bool {
-        self.variable < other.variable
-            || (self.variable == other.variable && !self.negated && other.negated)
-    }
 }
+
+/// The derived order is by rising variable; of a variable's two literals the positive one comes first.
+pub fn literals_rise()
+    ensures { (k l : Literal) → before ⟦<Literal as Ord>⟧.cmp k l ≡ earlier k l }
+{}

@@ -1,46 +1,37 @@
 -- Tests that decide whether answers are right, so that a worked trial is shown by computing it.
 use Rattle.std.proofs.Common.{◌≡◌, ℕ, Bool, true, false, not, ◌&&◌, ◌||◌, leb, List, [], ◌∷◌, length, sym, ap, ◌∙◌, subst, inl, inr, true≢false}
-use mathlib.Core.List.Memᴰ
 use Rattle.std.proofs.lemmas.Bool.{and_parts, leb-true, not-true, or_cases, or_parts}
 use Rattle.cnf.specs.declared.literals.Literal.{Literal}
 use Rattle.cnf.specs.Literals.{complement, same_literal}
 use Rattle.cnf.specs.Clauses.{Clause, ◌∈◌}
 use Rattle.cnf.specs.Propagation.{Falsified, Forces}
-use Rattle.cnf.proofs.Arranging.{all_cons}
+use Rattle.std.specs.List.{list_all}
+use Rattle.cnf.proofs.Passing.{each_passes}
 use Rattle.cnf.proofs.Complements.{same_or_not, same_literal_self, same_literal_true}
-use Rattle.drup.specs.declared.Forced.{Forced}
+use Rattle.cnf.specs.declared.literals.Forced.{Forced}
 use Rattle.drup.specs.History.{Live, Step, is_struck, table, text}
 use Rattle.drup.specs.Backward.{Conflict, ConflictOver, Nothing, NothingOver, RightOver, holds, trail}
 use Rattle.drup.proofs.Standing.{holds_false, holds_true}
 
 -- every literal of c is false
 abbrev pub falsified : List Literal → Clause → Bool
-falsified trail [] = true
-falsified trail (k ∷ c) = holds (complement k) trail && falsified trail c
+falsified trail c = list_all (λ k. holds (complement k) trail) c
 
 falsified_true : (trail : List Literal) (c : Clause) → falsified trail c ≡ true → Falsified trail c
-falsified_true trail [] e = λ k m. absurd (Memᴰ.not-nil m)
-falsified_true trail (k ∷ c) e =
-    let b = and_parts (holds (complement k) trail) (falsified trail c) e in
-    all_cons (λ j. complement j ∈ trail) (holds_true (complement k) trail b.0) (falsified_true trail c b.1)
+falsified_true trail c e k m = holds_true (complement k) trail (each_passes (λ j. holds (complement j) trail) m e)
 
 -- every literal of c but l is false
 abbrev pub others_false : List Literal → Clause → Literal → Bool
-others_false trail [] l = true
-others_false trail (k ∷ c) l = (same_literal k l || holds (complement k) trail) && others_false trail c l
+others_false trail c l = list_all (λ k. same_literal k l || holds (complement k) trail) c
 
 others_true :
     (trail : List Literal) (c : Clause) (l : Literal) → others_false trail c l ≡ true
     → (k : Literal) → k ∈ c → (k ≡ l → ⊥) → complement k ∈ trail
-others_true trail [] l e = λ k m. absurd (Memᴰ.not-nil m)
-others_true trail (k ∷ c) l e =
-    let b = and_parts (same_literal k l || holds (complement k) trail) (others_false trail c l) e in
-    all_cons (λ j. (j ≡ l → ⊥) → complement j ∈ trail)
-    (λ d. elim (or_cases (same_literal k l) (holds (complement k) trail) b.0) [
+others_true trail c l e k m d =
+    elim (or_cases (same_literal k l) (holds (complement k) trail) (each_passes (λ j. same_literal j l || holds (complement j) trail) m e)) [
       | inl s ↦ absurd (d (same_literal_true k l s))
       | inr h ↦ holds_true (complement k) trail h
-    ])
-    (others_true trail c l b.1)
+    ]
 
 -- c forces l
 abbrev pub forces_it : List Literal → Clause → Literal → Bool

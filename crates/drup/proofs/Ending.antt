@@ -7,7 +7,7 @@ use Rattle.cnf.specs.Clauses.{Clause, Within}
 use Rattle.cnf.specs.Propagation.{Falsified, Forces}
 use Rattle.cnf.specs.Arranging.{names}
 use Rattle.cnf.proofs.Derivations.{falsified_or_not, forced_new, forces_or_not}
-use Rattle.drup.specs.declared.Forced.{Forced}
+use Rattle.cnf.specs.declared.literals.Forced.{Forced}
 use Rattle.drup.specs.History.{Live, Step, is_struck, learned, next_number, struck, table, text}
 use Rattle.drup.specs.Forward.{Accepts, Machine, opened}
 use Rattle.drup.specs.WellFormed.{Formed, WellFormed}

@@ -2,7 +2,7 @@
 use Rattle.std.proofs.Common.{◌≡◌, ℕ, suc, ◌+◌, true, false, List, [], ◌∷◌, map, length, refl, inl, inr}
 use Rattle.cnf.specs.Literals.{complement}
 use Rattle.cnf.specs.Clauses.{Clause}
-use Rattle.drup.specs.declared.Forced.{Forced}
+use Rattle.cnf.specs.declared.literals.Forced.{Forced}
 use Rattle.drup.specs.History.{Step, learned, next_number, struck}
 use Rattle.drup.specs.Forward.{Machine}
 use Rattle.drup.specs.Backward.{Conflict, Nothing, Verdict, accepted, asked, conflict_row, fails, report, with_row}

@@ -1,16 +1,17 @@
 -- The jobs worked out, each by answers that take the lowest falsified clause, else the lowest forcing one.
-use Rattle.std.proofs.Common.{◌≡◌, ℕ, Bool, true, ◌&&◌, eqb, List, [], ◌∷◌, refl, ap, ◌∙◌, inl, inr, arith}
-use mathlib.Core.Bool.{false≢true}
+use Rattle.std.proofs.Common.{◌≡◌, ℕ, Bool, true, ◌&&◌, List, [], ◌∷◌, refl, ap, ◌∙◌, inl, inr, arith}
 use Rattle.std.proofs.lemmas.Bool.{and_parts, eqb-true, or_cases}
+use Rattle.std.specs.List.{list_all}
 use Rattle.cnf.specs.declared.literals.Literal.{Literal}
-use Rattle.drup.specs.declared.Forced.{Forced}
+use Rattle.cnf.proofs.Passing.{each_passes}
+use Rattle.cnf.specs.declared.literals.Forced.{Forced}
 use Rattle.drup.specs.History.{Live, Step, table, text}
 use Rattle.drup.specs.Forward.{Machine, without_last}
 use Rattle.drup.specs.Marks.{Marks, has, lone, marked}
 use Rattle.drup.specs.Backward.{Report, Row, accepted}
 use Rattle.drup.specs.Box.{Checks}
 use Rattle.drup.specs.Jobs.{WorkedJobs, counts, job_a, job_b, job_c, job_d, job_e, keeping, machine_of, neg, pos, row}
-use Rattle.drup.proofs.Numbers.{at_most, same_marks}
+use Rattle.drup.proofs.Numbers.{at_most, has_true, same_marks}
 use Rattle.drup.proofs.Deciding.{Idle, idle_by_true, live_conflict, live_nothing}
 
 -- clause n forces l
@@ -24,14 +25,10 @@ row_marks empty (r ∷ rows) = marked r.antecedents (row_marks empty rows)
 
 -- all these numbers are marked
 abbrev all_marked : List ℕ → Marks → Bool
-all_marked [] kept = true
-all_marked (k ∷ ks) kept = kept k && all_marked ks kept
+all_marked ks kept = list_all kept ks
 
 all_marked_lem : (ks : List ℕ) (kept : Marks) → all_marked ks kept ≡ true → (n : ℕ) → has ks n ≡ true → kept n ≡ true
-all_marked_lem [] kept e n h = absurd (false≢true h)
-all_marked_lem (k ∷ ks) kept e n h =
-    let b = and_parts (kept k) (all_marked ks kept) e in
-    elim (or_cases (eqb n k) (has ks n) h) [ inl p ↦ ap kept (eqb-true n k p) ∙ b.0 | inr r ↦ all_marked_lem ks kept b.1 n r ]
+all_marked_lem ks kept e n h = each_passes kept (has_true ks n h) e
 
 -- the list has the empty lemma and all numbers of the rows
 abbrev has_rows : List ℕ → ℕ → List Row → Bool

@@ -8,14 +8,14 @@ use Rattle.cnf.specs.Literals.{complement}
 use Rattle.cnf.specs.Clauses.{Clause, Within, ◌∈◌}
 use Rattle.cnf.proofs.Arranging.{all_cons}
 use Rattle.cnf.proofs.Derivations.{lean_derives}
-use Rattle.drup.specs.declared.Forced.{Forced}
-use Rattle.drup.specs.History.{LearnedAfter, LiveClause, Step, learned, next_number, struck, table, text}
+use Rattle.cnf.specs.declared.literals.Forced.{Forced}
+use Rattle.drup.specs.History.{LearnedAfter, Live, LiveClause, Step, learned, next_number, struck, table, text}
 use Rattle.drup.specs.WellFormed.{Formed}
 use Rattle.drup.specs.Marks.{lemma_numbers}
 use Rattle.drup.specs.Backward.{Backward, Conflict, Report, Row, Verdict, accepted, asked, conflict_row, fails, with_row}
 use Rattle.drup.specs.Agreement.{Derives, RowOf}
 use Rattle.drup.proofs.Numbers.{marked_row, marked_same, marked_stays}
-use Rattle.drup.proofs.Trials.{conflict_lean, conflict_live}
+use Rattle.drup.proofs.Trials.{conflict_lean, row_alive}
 use Rattle.drup.proofs.Short.{short}
 use Rattle.drup.proofs.WellFormed.{live_within, withdrawn}
 
@@ -36,7 +36,7 @@ conflict_derives v n q inputs earlier c answers k formed right =
     record {
       its_number = refl;
       short = omega arith;
-      live = conflict_live inputs earlier (map complement c) answers k right;
+      live = row_alive (text (table inputs earlier)) (Live inputs earlier) (map complement c) answers k right;
       lean = lean;
     }
 
@@ -80,7 +80,7 @@ grown inputs (learned c ∷ earlier) so_far count v r (inr (inl (k, answers, n, 
       kept_above = λ i h.
           g.kept_above i (omega arith)
           ∙ marked_same new.antecedents so_far.kept i
-          (λ m. let l = (conflict_live inputs earlier (map complement c) answers n right i m).entered in omega arith);
+          (λ m. let l = (row_alive (text (table inputs earlier)) (Live inputs earlier) (map complement c) answers n right i m).entered in omega arith);
       rows_new = λ row m. elim (g.rows_new row m) [
         | inl x ↦ elim (in-cons x) [
           | inl e ↦ inr (let h = ap (λ (y : Row). y.lemma_number) e in omega arith)

@@ -1,10 +1,11 @@
 -- Numbers of clauses: a number has a text, a text a number, and marks sieve a table.
-use Rattle.std.proofs.Common.{◌≡◌, ℕ, suc, ◌+◌, ◌≤◌, Bool, true, false, cond, eqb, ◌⊎◌, List, [], ◌∷◌, ◌++◌, length, sym, refl, ap, ◌∙◌, inl, inr, arith}
-use mathlib.Core.Bool.{false≢true}
+use Rattle.std.proofs.Common.{◌≡◌, ℕ, suc, ◌+◌, ◌≤◌, Bool, true, false, cond, eqb, ◌⊎◌, List, [], ◌∷◌, ◌++◌, length, sym, refl, ap, ◌∙◌, subst, inl, inr, arith}
 use mathlib.Core.List.Memᴰ.{cases_cons as in-cons}
 use mathlib.Core.List.Memᴰ.{head as here}
 use mathlib.Core.List.Memᴰ.{tail as there}
 use Rattle.std.proofs.lemmas.Bool.{cases_Bool, eq-eqb, eqb-false, eqb-true, ne_eqb, or_cases, or_right}
+use Rattle.std.specs.Cmp.{both_ways}
+use Rattle.cnf.proofs.Passing.{any_passes, some_passes}
 use Rattle.cnf.specs.Clauses.{Clause, ◌∈◌, literals}
 use Rattle.drup.specs.History.{Step, learned, struck, table, text}
 use Rattle.drup.specs.Marks.{Marks, has, marked, sieved}
@@ -50,12 +51,10 @@ table_grows inputs (struck n ∷ later) earlier = table_grows inputs later earli
 
 -- the test of a list of numbers is right
 pub has_true : (ks : List ℕ) (n : ℕ) → has ks n ≡ true → n ∈ ks
-has_true [] n e = absurd (false≢true e)
-has_true (k ∷ ks) n e = elim (or_cases (eqb n k) (has ks n) e) [ inl p ↦ here (eqb-true n k p) | inr h ↦ there (has_true ks n h) ]
+has_true ks n e = let r = some_passes (λ k. eqb n k) ks e in subst (λ k. k ∈ ks) (sym (eqb-true n r.0 r.2)) r.1
 
 pub in_has : {n : ℕ} {ks : List ℕ} → n ∈ ks → has ks n ≡ true
-in_has {n} (here {x = k} {xs = ks} e) = rw (← e, eq-eqb n n refl) refl
-in_has {n} (there {x = k} {xs = ks} m) = rw (in_has m) (or_right (eqb n k) true refl)
+in_has {n} m = any_passes (λ k. eqb n k) m (eq-eqb n n refl)
 
 module _ (ks : List ℕ) (kept : Marks) (n : ℕ) where
   -- a number of the list is marked
@@ -76,12 +75,7 @@ module _ (ks : List ℕ) (kept : Marks) (n : ℕ) where
 
 -- marks on the same numbers are equal
 pub same_marks : (a b : Marks) → ((n : ℕ) → a n ≡ true → b n ≡ true) → ((n : ℕ) → b n ≡ true → a n ≡ true) → a ≡ b
-same_marks a b f g = λ i n. same_test (a n) (b n) (f n) (g n) i
-  where
-    same_test : (a b : Bool) → (a ≡ true → b ≡ true) → (b ≡ true → a ≡ true) → a ≡ b
-    same_test true b f g = sym (f refl)
-    same_test false true f g = g refl
-    same_test false false f g = refl
+same_marks a b f g = λ i n. both_ways (a n) (b n) (f n) (g n) i
 
 -- a kept clause stays in the sieved table
 pub text_sieved :

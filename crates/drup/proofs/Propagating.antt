@@ -6,7 +6,7 @@ use Rattle.cnf.specs.Literals.{complement}
 use Rattle.cnf.specs.Clauses.{Clause, Within}
 use Rattle.cnf.specs.Propagation.{Derivation, Forces}
 use Rattle.cnf.proofs.Derivations.{derives_before, passing_sound, saturated}
-use Rattle.drup.specs.declared.Forced.{Forced}
+use Rattle.cnf.specs.declared.literals.Forced.{Forced}
 use Rattle.drup.specs.History.{Live, LiveClause, Step, table, text}
 use Rattle.drup.specs.Forward.{Machine, fed, opened}
 use Rattle.drup.specs.WellFormed.{Formed}

@@ -5,7 +5,7 @@ use Rattle.cnf.specs.Clauses.{Clause, Within}
 use Rattle.cnf.specs.Propagation.{Derivation}
 use Rattle.cnf.specs.Arranging.{names}
 use Rattle.cnf.proofs.Derivations.{forced_new}
-use Rattle.drup.specs.declared.Forced.{Forced}
+use Rattle.cnf.specs.declared.literals.Forced.{Forced}
 use Rattle.drup.specs.Backward.{RightOver, asked, trail}
 use Rattle.drup.proofs.Counting.{counted, counted_more, counted_most}
 

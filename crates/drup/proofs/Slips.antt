@@ -9,7 +9,7 @@ use Rattle.cnf.specs.Literals.{complement}
 use Rattle.cnf.specs.Clauses.{Clause, ◌∈◌}
 use Rattle.cnf.specs.Propagation.{Lean}
 use Rattle.cnf.proofs.Arranging.{all_cons}
-use Rattle.drup.specs.declared.Forced.{Forced}
+use Rattle.cnf.specs.declared.literals.Forced.{Forced}
 use Rattle.drup.specs.History.{Live, LiveClause, Step, is_struck, learned, struck, table, text}
 use Rattle.drup.specs.Forward.{Accepts, Call, Machine, fed, opened, without_last}
 use Rattle.drup.specs.WellFormed.{WellFormed}

@@ -1,17 +1,16 @@
 -- A struck finds the highest live clause with its literals.
 use Rattle.std.proofs.Common.{◌≡◌, ℕ, suc, ◌≤◌, Bool, true, false, cond, not, ◌&&◌, eqb, List, [], ◌∷◌, length, sym, refl, ap, ◌∙◌, inl, inr, true≢false, arith}
-use mathlib.Core.Bool.{false≢true}
 use mathlib.Core.List.Memᴰ
 use mathlib.Core.List.Memᴰ.{cases_cons as in-cons}
 use mathlib.Core.List.Memᴰ.{head as here}
 use mathlib.Core.List.Memᴰ.{tail as there}
 use Rattle.std.proofs.lemmas.Bool.{and_parts, eqb-false, eqb-true, not-true}
 use Rattle.cnf.specs.declared.literals.Literal.{Literal}
-use Rattle.cnf.specs.Literals.{same_literal}
 use Rattle.cnf.specs.Clauses.{Clause, Rising, SameLiterals, ◌∈◌}
 use Rattle.cnf.specs.Arranging.{arranged, beyond, twice}
 use Rattle.cnf.proofs.Arranging.{arranged_has, arranged_in, twice_rising}
-use Rattle.cnf.proofs.Complements.{same_literal_self, same_literal_true}
+use Rattle.std.specs.Cmp.Lexicographic.{pointwise_decides}
+use Rattle.cnf.proofs.Complements.{same_literal_decides}
 use Rattle.drup.specs.History.{Live, Step, ended, is_struck, live_copy, same_clause, text}
 use Rattle.drup.specs.Forward.{Machine, clauses, fed, opened, rules, strike, target}
 use Rattle.drup.specs.WellFormed.{WellFormed}
@@ -54,19 +53,8 @@ named ls c t r same =
     ((λ l m. same.0 l (arranged_in ls l m)), (λ l m. arranged_has ls l (same.1 l m)))
 
 -- the test of two clauses is right
-same_clause_true : (c d : Clause) → same_clause c d ≡ true → c ≡ d
-same_clause_true [] [] e = refl
-same_clause_true [] (l ∷ d) e = absurd (false≢true e)
-same_clause_true (k ∷ c) [] e = absurd (false≢true e)
-same_clause_true (k ∷ c) (l ∷ d) e =
-    let h = and_parts (same_literal k l) (same_clause c d) e in
-    let p = same_literal_true k l h.0 in
-    let q = same_clause_true c d h.1 in
-    cc
-
-same_clause_self : (c : Clause) → same_clause c c ≡ true
-same_clause_self [] = refl
-same_clause_self (l ∷ c) = rw (same_literal_self l) (same_clause_self c)
+pub same_clause_decides : (c d : Clause) → (same_clause c d ≡ true → c ≡ d) × (c ≡ d → same_clause c d ≡ true)
+same_clause_decides = pointwise_decides same_literal_decides
 
 -- clause n of these is c and was not struck
 record Copy (c : Clause) (cs : List Clause) (steps : List Step) (n : ℕ) : Type 0 where
@@ -87,7 +75,7 @@ older c d cs steps k e copy =
     elim (at_most k (length cs) copy.entered) [
       | inl p ↦
           let t : d ≡ c = sym (text_newest d cs) ∙ ap (text (d ∷ cs)) (sym p) ∙ copy.its_text in
-          let s : same_clause c d ≡ true = rw t (same_clause_self c) in
+          let s : same_clause c d ≡ true = (same_clause_decides c d).1 (sym t) in
           let u : is_struck (suc (length cs)) steps ≡ false = rw p at copy.unstruck in
           absurd (true≢false (rw (s, u) at e))
       | inr h ↦
@@ -110,7 +98,7 @@ finds c (d ∷ cs) steps = go (same_clause c d && not (is_struck (suc (length cs
             numbered = omega arith;
             entered = omega arith;
             unstruck = not-true (is_struck (suc (length cs)) steps) h.1;
-            its_text = text_newest d cs ∙ sym (same_clause_true c d h.0);
+            its_text = text_newest d cs ∙ sym ((same_clause_decides c d).0 h.0);
           };
         }
     go false e below =

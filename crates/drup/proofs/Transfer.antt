@@ -7,7 +7,7 @@ use Rattle.cnf.specs.Literals.{complement}
 use Rattle.cnf.specs.Clauses.{Clause, ◌∈◌}
 use Rattle.cnf.specs.Propagation.{Falsified, Forces}
 use Rattle.cnf.proofs.Arranging.{all_cons}
-use Rattle.drup.specs.declared.Forced.{Forced}
+use Rattle.cnf.specs.declared.literals.Forced.{Forced}
 use Rattle.drup.specs.Backward.{ConflictOver, NothingOver, RightOver, gathered, stands_in, trail}
 
 module _ (alive alive' : ℕ → Type 0) (text text' : ℕ → Clause)

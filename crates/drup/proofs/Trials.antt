@@ -3,6 +3,7 @@ use Rattle.std.proofs.Common.{◌≡◌, ℕ, suc, ◌+◌, ◌≤◌, Bool, tru
 use mathlib.Core.List.Memᴰ
 use mathlib.Core.List.Memᴰ.{cases_cons as in-cons}
 use mathlib.Core.List.Memᴰ.{tail as there}
+use Rattle.std.proofs.lemmas.Bool.{cond_both}
 use Rattle.cnf.specs.declared.literals.Literal.{Literal}
 use Rattle.cnf.specs.Literals.{complement}
 use Rattle.cnf.specs.Clauses.{Clause, ◌∈◌}
@@ -10,15 +11,43 @@ use Rattle.cnf.specs.Propagation.{Derivation, Falsified, Forces, Lean, Passes, S
 use Rattle.cnf.proofs.Arranging.{all_cons}
 use Rattle.cnf.proofs.Complements.{complement_twice}
 use Rattle.cnf.proofs.Derivations.{lean_before, lean_derives, narrowed, saturated}
-use Rattle.drup.specs.declared.Forced.{Forced}
-use Rattle.drup.specs.History.{Live, LiveClause, Step, table, text}
-use Rattle.drup.specs.Backward.{Conflict, Nothing, Right, gathered, stands_in, trail}
+use Rattle.cnf.specs.declared.literals.Forced.{Forced}
+use Rattle.drup.specs.History.{LiveClause, Step, table, text}
+use Rattle.drup.specs.Backward.{Conflict, ConflictOver, Nothing, Right, RightOver, asked, gathered, stands_in, trail}
 use Rattle.drup.proofs.Standing.{stands_in_false, stands_in_true}
 
 -- what was assumed stays on the trail
 pub assumed_stays : (assumed : List Literal) (answers : List Forced) (l : Literal) → l ∈ assumed → l ∈ trail assumed answers
 assumed_stays assumed [] l m = m
 assumed_stays assumed (f ∷ earlier) l m = there (assumed_stays assumed earlier l m)
+
+-- what holds of the number of every right answer and of a row holds of the row that is gathered
+gathered_alive : (text : ℕ → Clause) (alive : ℕ → Type 0) (assumed : List Literal) (answers : List Forced) (row : List ℕ)
+    → RightOver alive text assumed answers → ((n : ℕ) → n ∈ row → alive n) → (n : ℕ) → n ∈ gathered text answers row → alive n
+gathered_alive text alive assumed [] row right live = live
+gathered_alive text alive assumed (f ∷ earlier) row right live =
+    gathered_alive text alive assumed earlier _ right.2
+    (cond_both (stands_in (complement f.literal) (map text row)) (f.number ∷ row) row (λ (r : List ℕ). (n : ℕ) → n ∈ r → alive n)
+    (λ e. all_cons alive right.0 live) (λ e. live))
+
+-- so the row of a conflict holds only numbers that are alive
+pub row_alive : (text : ℕ → Clause) (alive : ℕ → Type 0) (assumed : List Literal) (answers : List Forced) (conflict : ℕ)
+    → ConflictOver alive text assumed answers conflict → (n : ℕ) → n ∈ gathered text answers (conflict ∷ []) → alive n
+row_alive text alive assumed answers conflict found =
+    gathered_alive text alive assumed answers (conflict ∷ []) found.right (all_cons alive found.live (λ n m. absurd (Memᴰ.not-nil m)))
+
+-- a row has at most as many numbers as there were answers, the conflict among them
+gathered_few : (text : ℕ → Clause) (answers : List Forced) (row : List ℕ) → length (gathered text answers row) ≤ length answers + length row
+gathered_few text [] row = omega arith
+gathered_few text (f ∷ earlier) row =
+    let more = gathered_few text earlier (f.number ∷ row) in
+    let less = gathered_few text earlier row in
+    cond_both (stands_in (complement f.literal) (map text row)) (f.number ∷ row) row
+    (λ (r : List ℕ). length (gathered text earlier r) ≤ suc (length earlier) + length row) (λ e. omega arith) (λ e. omega arith)
+
+-- so an engine has answered at least as often as the row has numbers
+pub row_few : (text : ℕ → Clause) (answers : List Forced) (conflict : ℕ) → length (gathered text answers (conflict ∷ [])) ≤ asked answers
+row_few text answers conflict = let h = gathered_few text answers (conflict ∷ []) in omega arith
 
 module _ (inputs : List Clause) (steps : List Step) (assumed : List Literal) where
   -- a lean row under the whole trail is gathered into one under what was assumed
@@ -54,57 +83,12 @@ module _ (inputs : List Clause) (steps : List Step) (assumed : List Literal) whe
           ])
           d
 
-  -- the numbers of a gathered row are live
-  gathered_live :
-      (answers : List Forced) (row : List ℕ) → Right inputs steps assumed answers
-      → ((n : ℕ) → n ∈ row → Live inputs steps n)
-      → (n : ℕ) → n ∈ gathered (text (table inputs steps)) answers row → Live inputs steps n
-  gathered_live [] row right live = live
-  gathered_live (f ∷ earlier) row right live =
-      gathered_live earlier
-      (cond (stands_in (complement f.literal) (map (text (table inputs steps)) row)) (f.number ∷ row) row)
-      right.2
-      (chosen (stands_in (complement f.literal) (map (text (table inputs steps)) row)))
-    where
-      chosen : (b : Bool) (n : ℕ) → n ∈ cond b (f.number ∷ row) row → Live inputs steps n
-      chosen true = all_cons (Live inputs steps) right.0 live
-      chosen false = live
-
-  -- a row has at most as many numbers as there were answers, the conflict among them
-  gathered_asked :
-      (answers : List Forced) (row : List ℕ)
-      → length (gathered (text (table inputs steps)) answers row) ≤ length answers + length row
-  gathered_asked [] row = omega arith
-  gathered_asked (f ∷ earlier) row =
-      chosen (stands_in (complement f.literal) (map (text (table inputs steps)) row))
-      (gathered_asked earlier (f.number ∷ row)) (gathered_asked earlier row)
-    where
-      chosen :
-          (b : Bool)
-          → length (gathered (text (table inputs steps)) earlier (f.number ∷ row)) ≤ length earlier + suc (length row)
-          → length (gathered (text (table inputs steps)) earlier row) ≤ length earlier + length row
-          → length (gathered (text (table inputs steps)) earlier (cond b (f.number ∷ row) row)) ≤ suc (length earlier) + length row
-      chosen true more less = omega arith
-      chosen false more less = omega arith
-
-  -- so an engine has answered at least as often as the row has numbers
-  pub row_asked :
-      (answers : List Forced) (n : ℕ)
-      → length (gathered (text (table inputs steps)) answers (n ∷ [])) ≤ suc (length answers)
-  row_asked answers n = let h = gathered_asked answers (n ∷ []) in omega arith
-
   module _ (answers : List Forced) (n : ℕ) (conflict : Conflict inputs steps assumed answers n) where
     -- the row of a conflict is a derivation with no idle entry
     pub conflict_lean :
         Lean (LiveClause inputs steps) assumed (map (text (table inputs steps)) (gathered (text (table inputs steps)) answers (n ∷ [])))
     conflict_lean =
         gathered_lean answers (n ∷ []) conflict.right ((n, conflict.live, refl), conflict.false_there)
-
-    -- its numbers are live
-    pub conflict_live : (k : ℕ) → k ∈ gathered (text (table inputs steps)) answers (n ∷ []) → Live inputs steps k
-    conflict_live =
-        gathered_live answers (n ∷ []) conflict.right
-        (all_cons (Live inputs steps) conflict.live (λ k m. absurd (Memᴰ.not-nil m)))
 
   -- nothing shows that no derivation exists
   pub nothing_derives :

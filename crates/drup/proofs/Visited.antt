@@ -8,7 +8,7 @@ use Rattle.cnf.specs.Literals.{complement}
 use Rattle.cnf.specs.Clauses.{Clause, ◌∈◌}
 use Rattle.cnf.specs.Propagation.{Passes}
 use Rattle.cnf.proofs.Arranging.{all_cons}
-use Rattle.drup.specs.declared.Forced.{Forced}
+use Rattle.cnf.specs.declared.literals.Forced.{Forced}
 use Rattle.drup.specs.History.{Before, LearnedAfter, Live, LiveClause, Step, learned, lemmas, next_number, struck, table, text}
 use Rattle.drup.specs.Forward.{Accepts, AllPass, Machine}
 use Rattle.drup.specs.WellFormed.{Formed, WellFormed}
@@ -17,7 +17,7 @@ use Rattle.drup.specs.Backward.{Backward, Conflict, Report, Right, Row, Verdict,
 use Rattle.drup.specs.Box.{Checks, arcs_needed, empty_kept, last}
 use Rattle.drup.specs.Agreement.{FailsAt, Leads, RightRow, antecedent, is_empty}
 use Rattle.drup.proofs.Numbers.{marked_cases, marked_stays}
-use Rattle.drup.proofs.Trials.{nothing_derives, row_asked}
+use Rattle.drup.proofs.Trials.{nothing_derives, row_few}
 use Rattle.drup.proofs.Short.{asked_few}
 use Rattle.drup.proofs.WellFormed.{live_within, withdrawn}
 use Rattle.drup.proofs.Kept.{accepted_not_fails, conflict_derives}
@@ -139,7 +139,7 @@ module _ (m : Machine) where
         one_each = joins_each row so_far.rows (λ r x. v.above r x) v.one_each;
         answered =
             let h = v.answered in
-            let more = row_asked m.inputs earlier (map complement c) answers n in
+            let more = row_few (text (table m.inputs earlier)) answers n in
             omega arith;
         few = let h = v.few in let k = asked_formed c earlier so_far count answers v clash.right in omega arith;
       }

@@ -1,10 +1,11 @@
 -- The backward check, by an engine that may give any right answers.
-use Rattle.std.specs.Prelude.{◌≡◌, ℕ, suc, ◌+◌, Bool, true, false, cond, ◌||◌, ◌⊎◌, List, [], ◌∷◌, map, length}
+use Rattle.std.specs.Prelude.{◌≡◌, ℕ, suc, ◌+◌, Bool, true, false, cond, ◌⊎◌, List, [], ◌∷◌, map, length}
+use Rattle.std.specs.List.{list_any}
 use Rattle.cnf.specs.declared.literals.Literal.{Literal}
 use Rattle.cnf.specs.Literals.{complement, same_literal}
 use Rattle.cnf.specs.Clauses.{Clause}
 use Rattle.cnf.specs.Propagation.{Falsified, Forces}
-use Rattle.drup.specs.declared.Forced.{Forced}
+use Rattle.cnf.specs.declared.literals.Forced.{Forced}
 use Rattle.drup.specs.History.{Step, learned, struck, table, next_number, text, Live}
 use Rattle.drup.specs.Marks.{Marks, marked, sieved}
 
@@ -50,13 +51,11 @@ asked answers = suc (length answers)
 
 -- l stands in c
 abbrev pub holds : Literal → Clause → Bool
-holds l [] = false
-holds l (k ∷ c) = same_literal l k || holds l c
+holds l c = list_any (same_literal l) c
 
 -- l stands in one of these clauses
 abbrev pub stands_in : Literal → List Clause → Bool
-stands_in l [] = false
-stands_in l (c ∷ cs) = holds l c || stands_in l cs
+stands_in l cs = list_any (holds l) cs
 
 -- from the latest answer back, a number enters the row if the complement of its literal stands in a clause of the row
 abbrev pub gathered : (text : ℕ → Clause) → List Forced → (row : List ℕ) → List ℕ

@@ -1,6 +1,7 @@
 -- What a job has been told: its input clauses and its steps, each list newest first. So the steps before a step are the
 -- rest of the list behind it, and there the clauses live at that step can be read off.
 use Rattle.std.specs.Prelude.{◌≡◌, ℕ, suc, ◌≤◌, Bool, true, false, cond, not, ◌&&◌, ◌||◌, List, [], ◌∷◌, ◌++◌, length, ◌==◌}
+use Rattle.std.specs.Cmp.Lexicographic.{pointwise}
 use Rattle.cnf.specs.Literals.{same_literal}
 use Rattle.cnf.specs.Clauses.{Clause}
 
@@ -42,10 +43,7 @@ LiveClause inputs earlier c = (n : ℕ) × Live inputs earlier n × (text (table
 
 -- two clauses have the same literals; both stand by rising variable
 abbrev pub same_clause : Clause → Clause → Bool
-same_clause [] [] = true
-same_clause [] (l ∷ d) = false
-same_clause (k ∷ c) [] = false
-same_clause (k ∷ c) (l ∷ d) = same_literal k l && same_clause c d
+same_clause c d = pointwise same_literal c d
 
 -- the highest number of a live copy of c among the clauses of a table, 0 if there is none
 abbrev pub live_copy : (c : Clause) → List Clause → List Step → ℕ

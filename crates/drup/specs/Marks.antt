@@ -1,5 +1,6 @@
 -- Marks: a truth value for each number, and what the marked numbers pick out of a job.
-use Rattle.std.specs.Prelude.{ℕ, suc, Bool, false, cond, ◌||◌, List, [], ◌∷◌, length, ◌==◌}
+use Rattle.std.specs.Prelude.{ℕ, suc, Bool, cond, ◌||◌, List, [], ◌∷◌, length, ◌==◌}
+use Rattle.std.specs.List.{list_any}
 use Rattle.cnf.specs.Clauses.{Clause}
 use Rattle.drup.specs.History.{Step, learned, struck, next_number}
 
@@ -9,8 +10,7 @@ Marks = ℕ → Bool
 
 -- n is among these numbers
 abbrev pub has : List ℕ → (n : ℕ) → Bool
-has [] n = false
-has (k ∷ ks) n = n == k || has ks n
+has ks n = list_any (λ k. n == k) ks
 
 -- only the number k is marked
 abbrev pub lone : (k : ℕ) → Marks

@@ -3,7 +3,7 @@
 use Rattle.std.specs.Prelude.{◌≡◌, ℕ, suc, ◌+◌, true, false, ◌⊎◌, ◌↔◌, List, [], ◌∷◌, map, length}
 use Rattle.cnf.specs.Literals.{complement}
 use Rattle.cnf.specs.Clauses.{Clause}
-use Rattle.drup.specs.declared.Forced.{Forced}
+use Rattle.cnf.specs.declared.literals.Forced.{Forced}
 use Rattle.drup.specs.History.{Step, learned, struck, table, next_number, text, is_struck, Live}
 use Rattle.drup.specs.Forward.{Machine, opened, Call, clause, lemma, strike, fed, Accepts}
 use Rattle.drup.specs.Backward.{ConflictOver, NothingOver, asked, gathered, Verdict, with_row, Report, report, Outcome, accepted, fails}
