@@ -1,9 +1,5 @@
 -- A counted text: a line with the number of its bytes, and then the text.
-use Rattle.std.specs.Prelude.{◌≡◌, ℕ, ◌≤◌, Bool, not, List, ◌∷◌, ◌++◌, length, decimal, ◌==◌, ◌≢◌}
-
--- a byte inside a line: no line feed
-abbrev pub in_line : ℕ → Bool
-in_line b = not (b == 10)
+use Rattle.std.specs.Prelude.{◌≡◌, ℕ, ◌≤◌, List, ◌∷◌, ◌++◌, length, decimal, ◌≢◌}
 
 -- a line says no number up to 32,768
 abbrev pub NoCount : (line : List ℕ) → Type 0

@@ -1,9 +1,8 @@
 //! Counted texts: a line with the number of a text's bytes, and then the text.
 #![tactic(auto)]
 
-ghost use Rattle.std.specs.Prelude.{◌≡◌, ◌≤◌, length, decimal, MatchOption};
-ghost use Rattle.std.specs.List.{prefix_len};
-ghost use Rattle.framing.specs.Counted.{in_line, NoCount, Uncounted, Counts};
+ghost use Rattle.std.specs.Prelude.{◌≡◌, ◌≤◌, decimal, MatchOption};
+ghost use Rattle.framing.specs.Counted.{NoCount, Uncounted, Counts};
 
 use words::lexis::is_unsigned;
 use words::numbers::value16;
@@ -18,30 +17,12 @@ pub struct Counted<'a> {
     pub rest: &'a [u8],
 }
 
-/// Where the first line ends: its line feed, or the end.
-fn line_end(input: &[u8]) -> usize
-    ensures place { result ≡ prefix_len in_line input.now }
-    ensures within { result ≤ length input.now }
-{
-    let mut i = 0;
-    while i < input.len() && input[i] != b'\n' {
-        i += 1;
-    }
-    i
-}
-
 /// The count that a line says: a number without a sign and without a leading zero, and nothing else.
 fn count_of(line: &[u8]) -> Option<usize>
     ensures { MatchOption result (NoCount line.now) (λ n. (n ≤ 32768) × (line.now ≡ decimal n)) }
 {
-    if !is_unsigned(line) {
-        return None;
-    }
     let count = value16(line);
-    if count > MOST_BYTES {
-        return None;
-    }
-    Some(count as usize)
+    (is_unsigned(line) && count <= MOST_BYTES).then_some(usize::from(count))
 }
 
 /// The counted text with which the input begins, if it begins with one: a line with the number of the text's bytes, at
@@ -49,38 +30,23 @@ fn count_of(line: &[u8]) -> Option<usize>
 pub fn split_counted(input: &[u8]) -> Option<Counted<'_>>
     ensures { MatchOption result (Uncounted input.now) (λ c. Counts input.now c.text.now c.rest.now) }
 {
-    let end = line_end(input);
-    if end == input.len() {
-        return None;
-    }
-    let count = count_of(&input[0..end])?;
-    let behind = &input[end + 1..];
-    if behind.len() < count {
-        return None;
-    }
-    Some(Counted {
-        text: &behind[0..count],
-        rest: &behind[count..],
-    })
+    let end = input.iter().position(|b| *b == b'\n')?;
+    let count = count_of(&input[..end])?;
+    let (text, rest) = input[end + 1..].split_at_checked(count)?;
+    Some(Counted { text, rest })
 }
 
 #[cfg(test)]
 mod tests {
     use super::*;
 
-    // How many bytes the text has with which the input begins, and how many follow it.
-    fn lengths(input: &[u8]) -> Option<(usize, usize)> {
-        let found = split_counted(input)?;
-        Some((found.text.len(), found.rest.len()))
-    }
-
     #[test]
     fn count_lines(rt: HostRuntime) {
         for (input, expected) in [
-            (b"0\n".as_slice(), Some((0, 0))),
-            (b"3\nabcd", Some((3, 1))),
+            (b"0\n".as_slice(), Some((b"".as_slice(), b"".as_slice()))),
+            (b"3\nabcd", Some((b"abc", b"d"))),
             (b"3\nab", None),
-            (b"2\n\n\n\n", Some((2, 1))),
+            (b"2\n\n\n\n", Some((b"\n\n", b"\n"))),
             (b"", None),
             (b"0", None),
             (b"\n", None),
@@ -94,7 +60,8 @@ mod tests {
             (b"32769\n", None),
             (b"18446744073709551618\nab", None),
         ] {
-            assert_eq!(rt; lengths(input), expected);
+            let found = split_counted(input).map(|counted| (counted.text, counted.rest));
+            assert_eq!(rt; found, expected);
         }
     }
 }

@@ -1,21 +1,25 @@
 -- The words of a text come in order and hold just the bytes that are neither blank nor in a comment. Assumes nothing.
-use Rattle.std.proofs.Common.{◌≡◌, ℕ, zero, suc, ◌+◌, ◌<◌, ◌≤◌, Bool, true, false, cond, not, ◌&&◌, ◌||◌, eqb, leb, List, [], ◌∷◌, length, get_or, All, sym, refl, ap, ◌∙◌, ⊎_elim, one-add, arith}
+use Rattle.std.proofs.Common.{◌≡◌, ℕ, zero, suc, ◌+◌, ◌<◌, ◌≤◌, Bool, true, false, cond, not, ◌&&◌, ◌||◌, eqb, leb, List, [], ◌∷◌, length, get_or, All, sym, refl, ap, ◌∙◌, ⊎_elim, arith}
 use Rattle.std.specs.List.{prefix_len}
 use Rattle.std.proofs.lemmas.List.Elements.{All-weaker, All-nil, All-cons, All-head, All-tail}
-use Rattle.std.proofs.lemmas.Bool.{cond-true, cond-false, cond_both, cases_Bool, cases_lt, cases_eq, eq-eqb, ne_eqb, eqb-true, le-leb, lt-leb, lt-ltb, le-ltb, and_from, and_left, and_right, or_parts, or_left, or_from, not_from_true, not_from_false, not-true, true≢false}
+use Rattle.std.proofs.lemmas.Bool.{cond-true, cond-false, cond_both, cases_Bool, cases_lt, cases_eq, eq-eqb, ne_eqb, eqb-true, le-leb, lt-leb, lt-ltb, le-ltb, and_from, and_left, and_right, or_left, or_from, not-true}
 use Rattle.words.specs.declared.lexis.Mode.{Mode}
 use Rattle.words.specs.declared.lexis.Mode.TheVariants.{Fresh, Within, Comment}
 use Rattle.words.specs.Lexis.{blank, inner, passes, after, shape}
 use Rattle.words.specs.Texts.{At, front, words_past, words_from, words_of}
 use Rattle.words.specs.Runs.{end_of, line_start, commented, covered, Ordered, Parts}
-use Rattle.words.proofs.Runs.{bytes_shape, length_front, stand}
+use Rattle.std.proofs.lemmas.List.Folds.{length-prefix_len}
+use Rattle.std.proofs.lemmas.List.Sums.{prefix_len_passes}
+use Rattle.std.proofs.lemmas.Bool.Decides.{nat_tests}
+use Rattle.words.proofs.Runs.{bytes_shape, stand}
+use Rattle.words.proofs.Walks.{inner_more}
 
 -- the word that begins at p
 abbrev here : ℕ → ℕ → List ℕ → At
 here p b bs = record { word = shape (b ∷ front bs); place = p }
 
 end_is : (p b : ℕ) (bs : List ℕ) → end_of (here p b bs) ≡ p + suc (prefix_len inner bs)
-end_is p b bs = ap (λ l. p + length l) (bytes_shape b (front bs)) ∙ ap (λ n. p + suc n) (length_front bs)
+end_is p b bs = ap (λ l. p + length l) (bytes_shape b (front bs)) ∙ ap (λ n. p + suc n) (length-prefix_len inner bs)
 
 -- no word begins ahead of where the words begin
 abbrev From : ℕ → At → Type 0
@@ -64,56 +68,41 @@ mode_at m (b ∷ bs) (suc i) = mode_at (after m b) bs i
 abbrev wanted : Mode → List ℕ → ℕ → Bool
 wanted m bs i = inner (get_or bs i 0) && not (opens (mode_at m bs i) (get_or bs i 0))
 
-neither : (x y : Bool) → (x || y) ≡ true → (not y && not x) ≡ false
-neither true true e = refl
-neither true false e = refl
-neither false true e = refl
-neither false false e = sym e
-
 want_passed : (m : Mode) (b : ℕ) → passes m b ≡ true → (inner b && not (opens m b)) ≡ false
-want_passed Fresh b e = neither (eqb b 99) (blank b) e
-want_passed Within b e = and_left (inner b) _ (not_from_true (blank b) e)
+want_passed Fresh b e = grind (arith, nat_tests)
+want_passed Within b e = grind (arith, nat_tests)
 want_passed Comment b e = and_right (inner b) _ refl
 
 want_stopped : (m : Mode) (b : ℕ) → passes m b ≡ false → (inner b && not (opens m b)) ≡ true
-want_stopped Fresh b e = let p = or_parts (eqb b 99) (blank b) e in and_from _ _ (not_from_false (blank b) p.1) (not_from_false (eqb b 99) p.0)
-want_stopped Within b e = and_from _ _ (not_from_false (blank b) e) refl
-want_stopped Comment b e = absurd (true≢false e)
-
-no_line : (b : ℕ) → blank b ≡ false → eqb b 10 ≡ false
-no_line b e = (or_parts (eqb b 13) _ (or_parts (eqb b 9) _ (or_parts (eqb b 32) _ e).1).1).1
+want_stopped Fresh b e = grind (arith, nat_tests)
+want_stopped Within b e = grind (arith, nat_tests)
+want_stopped Comment b e = cc
 
 stopped_within : (m : Mode) (b : ℕ) → passes m b ≡ false → after m b ≡ Within
-stopped_within Fresh b e = let p = or_parts (eqb b 99) (blank b) e in cond-false (eqb b 99) _ _ p.0 ∙ cond-false (eqb b 10) _ _ (no_line b p.1)
-stopped_within Within b e = cond-false (eqb b 10) _ _ (no_line b e)
-stopped_within Comment b e = absurd (true≢false e)
+stopped_within Fresh b e = grind (arith, nat_tests)
+stopped_within Within b e = grind (arith, nat_tests)
+stopped_within Comment b e = cc
 
 inner_within : (b : ℕ) → inner b ≡ true → after Within b ≡ Within
 inner_within b e = stopped_within Within b (not-true (blank b) e)
 
-lead_more : (b : ℕ) (bs : List ℕ) → inner b ≡ true → prefix_len inner (b ∷ bs) ≡ suc (prefix_len inner bs)
-lead_more b bs e = cond-true (inner b) _ _ e ∙ one-add (prefix_len inner bs)
-
-lead_first : (b : ℕ) (bs : List ℕ) → 0 < prefix_len inner (b ∷ bs) → inner b ≡ true
-lead_first b bs h = ⊎_elim (λ e. e) (λ e. absurd (omega (arith, cond-false (inner b) (1 + prefix_len inner bs) 0 e))) (cases_Bool (inner b))
-
 front_wanted : (bs : List ℕ) (i : ℕ) → i < prefix_len inner bs → wanted Within bs i ≡ true
 front_wanted [] i h = absurd (omega arith)
-front_wanted (b ∷ bs) zero h = and_from _ _ (lead_first b bs h) refl
+front_wanted (b ∷ bs) zero h = and_from _ _ (prefix_len_passes inner (b ∷ bs) 0 0 h) refl
 front_wanted (b ∷ bs) (suc i) h =
-    let e = lead_first b bs (omega arith) in
-    ap (λ m. wanted m bs i) (inner_within b e) ∙ front_wanted bs i (omega (arith, lead_more b bs e))
+    let e = prefix_len_passes inner (b ∷ bs) 0 0 (omega arith) in
+    ap (λ m. wanted m bs i) (inner_within b e) ∙ front_wanted bs i (omega (arith, inner_more b bs e))
 
 covers : (k : ℕ) (m : Mode) (p : ℕ) (bs : List ℕ) (i : ℕ) → (0 < k → m ≡ Within) → k ≤ prefix_len inner bs → k ≤ i → i < length bs → covered (words_past k m p bs) (p + i) ≡ wanted m bs i
 unfolding words_past
 covers k m p [] i w h low high = absurd (omega arith)
 covers (suc k) m p (b ∷ bs) zero w h low high = absurd (omega arith)
 covers (suc k) m p (b ∷ bs) (suc i) w h low high =
-    let e = lead_first b bs (omega arith) in
+    let e = prefix_len_passes inner (b ∷ bs) 0 0 (omega arith) in
     let shift : p + suc i ≡ suc p + i = omega arith in
     let mode : after m b ≡ Within = ap (λ m. after m b) (w (omega arith)) ∙ inner_within b e in
     ap (covered (words_past k Within (suc p) bs)) shift
-    ∙ covers k Within (suc p) bs i (λ _. refl) (omega (arith, lead_more b bs e)) (omega arith) (omega arith)
+    ∙ covers k Within (suc p) bs i (λ _. refl) (omega (arith, inner_more b bs e)) (omega arith) (omega arith)
     ∙ ap (λ m. wanted m bs i) (sym mode)
 covers zero m p (b ∷ bs) zero w h low high =
     ⊎_elim
@@ -164,9 +153,9 @@ abbrev lined : ℕ → ℕ → ℕ → Mode
 lined s i c = cond (eqb s i) Fresh (cond (eqb c 99) Comment Within)
 
 after_line : (m : Mode) (b : ℕ) → b ≡ 10 → after m b ≡ Fresh
-after_line Fresh b e = cond-false (eqb b 99) _ _ (ne_eqb b 99 (λ q. omega arith)) ∙ cond-true (eqb b 10) _ _ (eq-eqb b 10 e)
-after_line Within b e = cond-true (eqb b 10) _ _ (eq-eqb b 10 e)
-after_line Comment b e = cond-true (eqb b 10) _ _ (eq-eqb b 10 e)
+after_line Fresh b e = grind (arith, nat_tests)
+after_line Within b e = grind (arith, nat_tests)
+after_line Comment b e = grind (arith, nat_tests)
 
 after_other : (t : Bool) (b : ℕ) → eqb b 10 ≡ false → after (cond t Comment Within) b ≡ cond t Comment Within
 after_other true b e = cond-false (eqb b 10) _ _ e

@@ -1,4 +1,3 @@
-pub mod Gaps
 pub mod Numerals
 pub mod Values
 pub mod Walks

@@ -1,21 +1,19 @@
 -- What a text that is written word by word reads as. Assumes nothing.
-use Rattle.std.proofs.Common.{◌≡◌, ℕ, zero, suc, ◌+◌, ◌^◌, ◌<◌, ◌≤◌, true, false, eqb, leb, List, [], ◌∷◌, ◌++◌, length, get_or, take, drop, decimal, All, refl, ap, ◌∙◌, one-add, arith}
-use Rattle.std.specs.Int.{IsInRange}
+use Rattle.std.proofs.Common.{◌≡◌, ℕ, zero, suc, ◌+◌, ◌^◌, ◌<◌, true, false, eqb, List, [], ◌∷◌, ◌++◌, length, get_or, take, drop, decimal, All, refl, ap, ◌∙◌, arith}
 use Rattle.std.specs.List.{prefix_len}
 use Rattle.std.specs.Str.{all_ascii_digits}
 use Rattle.std.proofs.lemmas.List.{take_at, drop_at}
 use Rattle.std.proofs.lemmas.List.Elements.{All-nil, All-cons, All-head, All-tail}
-use Rattle.std.proofs.lemmas.Bool.{cond-true, cond-false, le-leb, ne_eqb, and_from, and_right, and_parts, or_left, leb-true, false≢true}
+use Rattle.std.proofs.lemmas.Bool.{cond-true, cond-false, ne_eqb, and_right, or_left, false≢true}
 use Rattle.std.proofs.lemmas.Bool.Decides.{nat_tests}
-use Rattle.std.proofs.lemmas.Str.Parse.{tells_all_ascii_digits}
 use Rattle.std.proofs.lemmas.Fmt.{decimal_nonempty, first_decimal, digits_decimal, digits_value-decimal, decimal_digit}
 use Rattle.words.specs.declared.lexis.Mode.{Mode}
 use Rattle.words.specs.declared.lexis.Mode.TheVariants.{Fresh, Within}
-use Rattle.words.specs.Lexis.{inner, passes, gap, plain, natural, numeral, is_zero, number, shape}
+use Rattle.words.specs.Lexis.{inner, passes, plain, natural, numeral, is_zero, number, shape}
 use Rattle.words.specs.Numbers.{value}
-use Rattle.words.specs.Texts.{front, words_from}
+use Rattle.words.specs.Texts.{words_from}
 use Rattle.words.proofs.Values.{own}
-use Rattle.words.proofs.Walks.{from_none, from_passed, from_word, from_gap, given}
+use Rattle.words.proofs.Walks.{inner_more, from_none, from_passed, from_word}
 
 -- a text without a byte has no word
 pub spoken_none : (m : Mode) (p : ℕ) → words_from m p [] ≡ []
@@ -29,17 +27,13 @@ spoken_space p bs = from_passed Within p 32 bs refl
 pub spoken_line : (p : ℕ) (bs : List ℕ) → words_from Within p (10 ∷ bs) ≡ words_from Fresh (suc p) bs
 spoken_line p bs = from_passed Within p 10 bs refl
 
--- the words are the one behind the gap, and those behind it; where there is none, there are none at all
-pub spoken_gap : (m : Mode) (p : ℕ) (bs : List ℕ) → words_from m p bs ≡ given (shape (front (drop (gap m bs) bs))) (p + gap m bs) (words_from Within (p + gap m bs + prefix_len inner (drop (gap m bs) bs)) (drop (prefix_len inner (drop (gap m bs) bs)) (drop (gap m bs) bs)))
-spoken_gap m p bs = from_gap m p bs
-
 -- a byte of a word
 abbrev pub Solid : ℕ → Type 0
 Solid b = (inner b ≡ true)
 
 leading_word : (w : List ℕ) (s : ℕ) (rest : List ℕ) → All Solid w → inner s ≡ false → prefix_len inner (w ++ s ∷ rest) ≡ length w
 leading_word [] s rest h e = cond-false _ _ _ e
-leading_word (b ∷ w) s rest h e = cond-true _ _ _ (All-head Solid b w h) ∙ one-add _ ∙ ap suc (leading_word w s rest (All-tail Solid b w h) e)
+leading_word (b ∷ w) s rest h e = inner_more b (w ++ s ∷ rest) (All-head Solid b w h) ∙ ap suc (leading_word w s rest (All-tail Solid b w h) e)
 
 -- a word with a blank behind it is the next word
 pub spoken_word : (m : Mode) (p : ℕ) (w : List ℕ) (s : ℕ) (rest : List ℕ) → 0 < length w → All Solid w → passes m (get_or w 0 0) ≡ false → inner s ≡ false → words_from m p (w ++ s ∷ rest) ≡ record { word = shape w; place = p } ∷ words_from Within (p + length w) (s ∷ rest)
@@ -63,32 +57,19 @@ pub record Spelled (w : List ℕ) : Type 0 where
   pub is_numeral : numeral w ≡ true
   pub is_number : shape w ≡ number w
 
-solid_digit : (b : ℕ) → IsInRange 48 57 b → inner b ≡ true
-solid_digit b h = grind (arith, nat_tests)
-
 solid_digits : (ds : List ℕ) → all_ascii_digits ds ≡ true → All Solid ds
 solid_digits [] h = All-nil Solid
-solid_digits (b ∷ bs) h = let p = tells_all_ascii_digits.parts b bs h in All-cons Solid b bs (solid_digit b p.0) (solid_digits bs p.1)
-
-plain_first : (b : ℕ) (bs : List ℕ) → plain (b ∷ bs) ≡ true → IsInRange 49 57 b
-plain_first b bs h =
-    let p = and_parts (leb 49 b) _ h in
-    (leb-true 49 b p.0, leb-true b 57 (and_parts (leb b 57) _ p.1).0)
+solid_digits (b ∷ bs) h = All-cons Solid b bs (grind (arith, nat_tests)) (solid_digits bs (grind (arith, nat_tests)))
 
 digits_plain : (ds : List ℕ) → all_ascii_digits ds ≡ true → 0 < length ds → 48 < get_or ds 0 0 → plain ds ≡ true
 digits_plain [] h some first = absurd (omega arith)
-digits_plain (b ∷ bs) h some first =
-    let p = tells_all_ascii_digits.parts b bs h in
-    and_from (leb 49 b) _ (le-leb 49 b first) (and_from (leb b 57) _ (le-leb b 57 p.0.1) p.1)
+digits_plain (b ∷ bs) h some first = grind (arith, nat_tests)
 
 -- digits that are a number without a sign
 spelled_digits : (ds : List ℕ) → all_ascii_digits ds ≡ true → natural ds ≡ true → Spelled ds
 spelled_digits [] h n = absurd (false≢true n)
 spelled_digits (b ∷ bs) h n =
-    let d = (tells_all_ascii_digits.parts b bs h).0 in
-    let low : 48 ≤ b = d.0 in
-    let high : b ≤ 57 = d.1 in
-    let told : numeral (b ∷ bs) ≡ true = cond-false (eqb b 45) _ _ (ne_eqb b 45 (λ q. omega arith)) ∙ n in
+    let told : numeral (b ∷ bs) ≡ true = grind (arith, nat_tests) in
     record {
       some = omega arith;
       solid = solid_digits (b ∷ bs) h;
@@ -132,10 +113,7 @@ decimal_spelled n fits = spelled_digits (decimal n) (digits_decimal own n fits) 
 pub minus_spelled : (n : ℕ) → 0 < n → n < 2 ^ 64 → Spelled (45 ∷ decimal n)
 minus_spelled n some fits = spelled_minus (decimal n) (digits_decimal own n fits) (decimal_plain n some fits)
 
--- `0` is the word that a number 0 is written as, and no other number is
-pub zero_is_zero : is_zero (decimal 0) ≡ true
-zero_is_zero = ap is_zero (decimal_digit 0 (omega arith))
-
+-- no other number than 0 is written as the word `0`
 pub decimal_not_zero : (n : ℕ) → 0 < n → n < 2 ^ 64 → is_zero (decimal n) ≡ false
 decimal_not_zero n some fits = and_right _ _ (ne_eqb (get_or (decimal n) 0 0) 48 (λ q. omega (arith, first_decimal n some fits)))
 
@@ -145,11 +123,7 @@ minus_not_zero ds = and_right _ _ refl
 -- a minus is ahead of no number that is written without a sign
 digits_no_minus : (ds : List ℕ) → all_ascii_digits ds ≡ true → 0 < length ds → eqb (get_or ds 0 0) 45 ≡ false
 digits_no_minus [] h some = absurd (omega arith)
-digits_no_minus (b ∷ bs) h some = let d = (tells_all_ascii_digits.parts b bs h).0 in let low : 48 ≤ b = d.0 in ne_eqb b 45 (λ q. omega arith)
+digits_no_minus (b ∷ bs) h some = grind (arith, nat_tests)
 
 pub decimal_no_minus : (n : ℕ) → n < 2 ^ 64 → eqb (get_or (decimal n) 0 0) 45 ≡ false
 decimal_no_minus n fits = digits_no_minus (decimal n) (digits_decimal own n fits) (decimal_nonempty n fits)
-
--- a word that begins with a minus is no number without a sign
-pub minus_not_natural : (ds : List ℕ) → natural (45 ∷ ds) ≡ false
-minus_not_natural ds = refl

@@ -2,11 +2,10 @@
 //! byte is `c` is a comment and is passed over whole; a line feed alone ends a line.
 ghost use Rattle.std.specs.Prelude.{◌≡◌, ◌+◌, ◌<◌, ◌≤◌, length, drop};
 ghost use Rattle.std.specs.List.{prefix_len};
-ghost use Rattle.std.specs.Str.{all_ascii_digits};
 ghost use Rattle.words.specs.Lexis.{blank, inner, passes, after, gap, start_at, plain, natural, numeral, is_zero};
 
 /// Where a reader stands in a line.
-#[derive(Clone, Copy)]
+#[derive(Clone, Copy, Debug, PartialEq, Eq)]
 pub enum Mode {
     /// At the line's first byte.
     Fresh,
@@ -16,37 +15,39 @@ pub enum Mode {
     Comment,
 }
 
+impl Mode {
+    /// How a reader stands that goes on at `at`: at the text's first byte, or behind a word.
+    fn at(at: usize) -> Mode
+        ensures { result ≡ start_at at }
+    {
+        if at == 0 { Mode::Fresh } else { Mode::Within }
+    }
+
+    fn passes(self, b: u8) -> bool
+        ensures { result ≡ passes self b }
+    {
+        match self {
+            Mode::Fresh => b == b'c' || is_blank(b),
+            Mode::Within => is_blank(b),
+            Mode::Comment => true,
+        }
+    }
+
+    fn after(self, b: u8) -> Mode
+        ensures { result ≡ after self b }
+    {
+        match (self, b) {
+            (_, b'\n') => Mode::Fresh,
+            (Mode::Fresh, b'c') | (Mode::Comment, _) => Mode::Comment,
+            _ => Mode::Within,
+        }
+    }
+}
+
 fn is_blank(b: u8) -> bool
     ensures { result ≡ blank b }
 {
     matches!(b, b' ' | b'\t' | b'\r' | b'\n')
-}
-
-fn is_passed(mode: Mode, b: u8) -> bool
-    ensures { result ≡ passes mode b }
-{
-    match mode {
-        Mode::Fresh => b == b'c' || is_blank(b),
-        Mode::Within => is_blank(b),
-        Mode::Comment => true,
-    }
-}
-
-fn step(mode: Mode, b: u8) -> Mode
-    ensures { result ≡ after mode b }
-{
-    match (mode, b) {
-        (Mode::Fresh, b'c') => Mode::Comment,
-        (_, b'\n') => Mode::Fresh,
-        (Mode::Comment, _) => Mode::Comment,
-        _ => Mode::Within,
-    }
-}
-
-fn start(at: usize) -> Mode
-    ensures { result ≡ start_at at }
-{
-    if at == 0 { Mode::Fresh } else { Mode::Within }
 }
 
 /// Where the next word begins, or the text's length.
@@ -55,13 +56,14 @@ pub(crate) fn skip(text: &[u8], at: usize) -> usize
     ensures place { result ≡ at + gap (start_at at) (drop at text.now) }
     ensures within { result ≤ length text.now }
 {
-    let mut mode = start(at);
-    let mut i = at;
-    while i < text.len() && is_passed(mode, text[i]) {
-        mode = step(mode, text[i]);
-        i += 1;
+    let mut mode = Mode::at(at);
+    for (i, b) in text[at..].iter().enumerate() {
+        if !mode.passes(*b) {
+            return at + i;
+        }
+        mode = mode.after(*b);
     }
-    i
+    text.len()
 }
 
 /// Where the word that begins at `at` ends.
@@ -70,29 +72,16 @@ pub(crate) fn run(text: &[u8], at: usize) -> usize
     ensures place { result ≡ at + prefix_len inner (drop at text.now) }
     ensures within { result ≤ length text.now }
 {
-    let mut i = at;
-    while i < text.len() && !is_blank(text[i]) {
-        i += 1;
-    }
-    i
+    let rest = &text[at..];
+    at + rest.iter().position(|b| is_blank(*b)).unwrap_or(rest.len())
 }
 
-fn all_digits(w: &[u8]) -> bool
-    ensures { result ≡ all_ascii_digits w.now }
-{
-    for b in w {
-        if !b.is_ascii_digit() {
-            return false;
-        }
-    }
-    true
-}
-
+/// Whether the word is digits in base ten without a leading zero.
 fn is_plain(w: &[u8]) -> bool
     ensures { result ≡ plain w.now }
 {
     match w {
-        [b'1'..=b'9', rest @ ..] => all_digits(rest),
+        [b'1'..=b'9', rest @ ..] => rest.iter().all(u8::is_ascii_digit),
         _ => false,
     }
 }
@@ -101,10 +90,7 @@ fn is_plain(w: &[u8]) -> bool
 pub fn is_unsigned(w: &[u8]) -> bool
     ensures { result ≡ natural w.now }
 {
-    match w {
-        [b'0'] => true,
-        _ => is_plain(w),
-    }
+    is_zero(w) || is_plain(w)
 }
 
 /// Whether the word is a number: one without a sign, or a minus ahead of digits that do not begin with 0.

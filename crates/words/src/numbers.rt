@@ -6,19 +6,17 @@ ghost use Rattle.words.specs.Numbers.{value};
 pub fn value64(digits: &[u8]) -> u64
     ensures { result ≡ min (value digits.now) 18446744073709551615 }
 {
-    let mut n: u64 = 0;
-    for digit in digits {
-        let units = digit.saturating_sub(b'0');
-        n = n.saturating_mul(10).saturating_add(u64::from(units));
-    }
-    n
+    digits.iter().fold(0, |n: u64, digit| {
+        n.saturating_mul(10)
+            .saturating_add(u64::from(digit.saturating_sub(b'0')))
+    })
 }
 
 /// The number that the digits write, or the highest that 16 bits hold where it is larger.
 pub fn value16(digits: &[u8]) -> u16
     ensures { result ≡ min (value digits.now) 65535 }
 {
-    value64(digits).min(65535) as u16
+    u16::try_from(value64(digits)).unwrap_or(u16::MAX)
 }
 
 #[cfg(test)]

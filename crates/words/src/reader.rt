@@ -4,15 +4,16 @@ ghost use Rattle.std.specs.Prelude.{◌≤◌, length};
 mod reading;
 
 /// A word of a text, whose bytes are a part of the text, or the text's end.
-#[derive(Clone, Copy)]
+#[derive(Clone, Copy, Debug, PartialEq, Eq)]
 pub enum Word<'a> {
     Name(&'a [u8]),
     Number(&'a [u8]),
+    // Not a `None` in place of the word: the end has a place too, which a fault may name.
     End,
 }
 
 /// A word and the byte place where it begins, from 0; at the text's end the place is the text's length.
-#[derive(Clone, Copy)]
+#[derive(Clone, Copy, Debug, PartialEq, Eq)]
 pub struct Placed<'a> {
     pub word: Word<'a>,
     pub place: usize,

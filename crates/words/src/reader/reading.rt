@@ -48,33 +48,27 @@ impl<'a> Words<'a> {
 mod tests {
     use super::*;
 
-    // Whether the first word is a number, how long it is and where it stands.
-    fn outline(text: &[u8]) -> (bool, usize, usize) {
-        let first = Words::new(text).next();
-        match first.word {
-            Word::Name(w) => (false, w.len(), first.place),
-            Word::Number(w) => (true, w.len(), first.place),
-            Word::End => (false, 0, first.place),
-        }
-    }
-
     #[test]
     fn first_words(rt: HostRuntime) {
-        for (text, outlined) in [
-            (b"".as_slice(), (false, 0, 0)),
-            (b"c all\r of it", (false, 0, 12)),
-            (b"cnf 3 5\np 1", (false, 1, 8)),
-            (b" c 1", (false, 1, 1)),
-            (b"\t\r\nc\n-7\r1", (true, 2, 5)),
-            (b"\xff\0 1", (false, 2, 0)),
-            (b"0", (true, 1, 0)),
-            (b"-0", (false, 2, 0)),
-            (b"01 ", (false, 2, 0)),
-            (b"+1", (false, 2, 0)),
-            (b"-", (false, 1, 0)),
-            (b"99999999999999999999\n", (true, 20, 0)),
+        for (text, word, place) in [
+            (b"".as_slice(), Word::End, 0),
+            (b"c all\r of it", Word::End, 12),
+            (b"cnf 3 5\np 1", Word::Name(b"p"), 8),
+            (b" c 1", Word::Name(b"c"), 1),
+            (b"\t\r\nc\n-7\r1", Word::Number(b"-7"), 5),
+            (b"\xff\0 1", Word::Name(b"\xff\0"), 0),
+            (b"0", Word::Number(b"0"), 0),
+            (b"-0", Word::Name(b"-0"), 0),
+            (b"01 ", Word::Name(b"01"), 0),
+            (b"+1", Word::Name(b"+1"), 0),
+            (b"-", Word::Name(b"-"), 0),
+            (
+                b"99999999999999999999\n",
+                Word::Number(b"99999999999999999999"),
+                0,
+            ),
         ] {
-            assert!(rt; outline(text) == outlined);
+            assert_eq!(rt; Words::new(text).next(), Placed { word, place });
         }
     }
 }
