@@ -1,29 +1,11 @@
 -- One text put after another, and what a writer's promise says at each answer. Assumes nothing.
-use Rattle.std.proofs.Common.{◌≡◌, ℕ, ◌+◌, ◌<◌, ◌≤◌, List, [], ◌∷◌, ◌++◌, length, take, drop, set, Ok, Err, Result, sym, refl, ap, ◌∙◌, inl, inr, add-one, arith}
-use Rattle.std.proofs.lemmas.List.{append_assoc, length-append, length-take-le, length-drop, take-append-drop, take_at, drop_at, drop-drop, set_split}
+use Rattle.std.proofs.Common.{◌≡◌, ℕ, ◌+◌, ◌<◌, ◌≤◌, List, ◌++◌, length, take, drop, Ok, Err, Result, sym, ap, ◌∙◌, inl, inr, arith}
+use Rattle.std.proofs.lemmas.List.{append_assoc, length-append, length-take-le, length-drop, take_at, drop_at, drop-drop}
 use Rattle.std.proofs.lemmas.Bool.{cond-true, cond-false, cases_Bool, leb-true, leb-false, le-leb}
-use borrow.Rule.Slice.PartMut.{put_mid}
 use Rattle.lines.specs.declared.faults.WriteFault.{WriteFault}
 use Rattle.lines.specs.declared.faults.WriteFault.TheVariants.{NoRoom}
 use Rattle.lines.specs.Put.{put, Puts}
 use Rattle.lines.specs.Writes.{has_room, Writes}
-
--- nothing is put
-pub puts_none : (out : List ℕ) (at : ℕ) → Puts out at [] at out
-puts_none out at =
-    record { after = sym (ap (λ n. take at out ++ drop n out) (omega arith) ∙ take-append-drop at out); next = omega arith }
-
--- one byte
-pub puts_byte : (out : List ℕ) (at b : ℕ) → at < length out → Puts out at (b ∷ []) (at + 1) (set out at b)
-puts_byte out at b h = record { after = set_split out at b h ∙ rw (← add-one at); next = refl }
-
--- a write to `out[at..at + n]`
-pub puts_part : (out : List ℕ) (at n : ℕ) (ys bs : List ℕ) → ys ≡ bs → n ≡ length bs → Puts out at bs (at + length bs) (put_mid at n out ys)
-puts_part out at n ys bs e f =
-    record {
-      after = ap (λ l. take at out ++ (l ++ drop n (drop at out))) e ∙ ap (λ l. take at out ++ (bs ++ l)) (drop-drop n at out ∙ ap (λ k. drop (at + k) out) f);
-      next = refl;
-    }
 
 -- a second put, at the place after the first
 put_put : (out : List ℕ) (at : ℕ) (cs : List ℕ) (n : ℕ) (bs : List ℕ) → n ≡ at + length cs → at ≤ length out → put (put out at cs) n bs ≡ put out at (cs ++ bs)
@@ -42,7 +24,7 @@ put_put out at cs n bs e h =
     ∙ append_assoc (take at out) cs (bs ++ drop (n + length bs) (put out at cs))
     ∙ ap (λ l. take at out ++ l) (sym (append_assoc cs bs (drop (n + length bs) (put out at cs))) ∙ ap (λ l. (cs ++ bs) ++ l) tail)
 
-put_length : (out : List ℕ) (at : ℕ) (bs : List ℕ) → at + length bs ≤ length out → length (put out at bs) ≡ length out
+pub put_length : (out : List ℕ) (at : ℕ) (bs : List ℕ) → at + length bs ≤ length out → length (put out at bs) ≡ length out
 put_length out at bs h =
     length-append (take at out) (bs ++ drop (at + length bs) out)
     ∙ omega (arith, length-append bs (drop (at + length bs) out), length-take-le at out (omega arith), length-drop (at + length bs) out)
@@ -55,10 +37,6 @@ module _ {out : List ℕ} {at : ℕ} where
         after = q.after ∙ ap (λ l. put l n bs) p.after ∙ put_put out at cs n bs p.next h;
         next = omega (arith, p.next, q.next, length-append cs bs);
       }
-
-  -- the same text under another name
-  pub puts_as : {cs bs : List ℕ} {r : ℕ} {out' : List ℕ} → cs ≡ bs → Puts out at cs r out' → Puts out at bs r out'
-  puts_as {cs} {bs} {r} {out'} e p = record { after = p.after ∙ ap (put out at) e; next = p.next ∙ ap (λ l. at + length l) e }
 
   -- a writer that answers a place had room, and put its text
   pub writes_ok : {bs : List ℕ} {r : ℕ} {out' : List ℕ} → Writes out at bs (Ok r) out' → (at + length bs ≤ length out) × Puts out at bs r out'

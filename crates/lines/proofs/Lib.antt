@@ -1,2 +1,3 @@
+pub mod Additions
 pub mod Chains
 pub mod Joins

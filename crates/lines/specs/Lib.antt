@@ -1,4 +1,5 @@
 pub mod Faults
+pub mod Pages
 pub mod Put
 pub mod Texts
 pub mod Writes

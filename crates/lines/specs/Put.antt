@@ -1,6 +1,5 @@
 -- Bytes put into a lent slice.
-use Rattle.std.specs.Prelude.{◌≡◌, ℕ, ◌+◌, ◌-◌, ◌≤◌, List, ◌++◌, length, take, drop, Option}
-use Rattle.std.specs.Option.{SomeIff}
+use Rattle.std.specs.Prelude.{◌≡◌, ℕ, ◌+◌, List, ◌++◌, length, take, drop}
 
 -- out with bs from at on; what stands ahead and after stays
 abbrev pub put : (out : List ℕ) (at : ℕ) (bs : List ℕ) → List ℕ
@@ -10,7 +9,3 @@ put out at bs = take at out ++ (bs ++ drop (at + length bs) out)
 pub record Puts (out : List ℕ) (at : ℕ) (bs : List ℕ) (r : ℕ) (out' : List ℕ) : Type 0 where
   pub after : out' ≡ put out at bs
   pub next : r ≡ at + length bs
-
--- r is what n bytes leave of the room, or nothing where there is not enough room
-abbrev pub Leaves : (room n : ℕ) → Option ℕ → Type 0
-Leaves room n r = SomeIff r (n ≤ room) (room - n)

@@ -2,8 +2,8 @@
 #![tactic(auto)]
 
 pub mod faults;
-mod puts;
-mod room;
+mod pages;
 #[cfg(test)]
 mod tests;
+mod texts;
 pub mod writers;

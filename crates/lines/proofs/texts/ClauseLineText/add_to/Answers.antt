@@ -1,0 +1,19 @@
+use Rattle.std.proofs.Common.{get_or, take, codes, sym, ap, ◌∙◌}
+use Rattle.std.specs.List.{flat_map}
+use Rattle.std.proofs.lemmas.List.{append_assoc, take_all}
+use Rattle.lines.specs.Texts.{literal_text, literal_word}
+use Rattle.lines.proofs.Additions.{adds_then, adds_as}
+use Rattle.lines.proofs.Joins.{none, joined_push}
+use Rattle.lines.proofs.texts.ClauseLineText.add_to.Goals as goal
+
+pub loop-literal-preserved : goal.loop-literal-preserved
+loop-literal-preserved c =
+    let xs = c.args.self.now.0.now in
+    let i = c.loop-literal.literal-index in
+    let more = append_assoc (flat_map literal_word (take i xs)) (literal_text (get_or xs i none)) (codes " ") ∙ sym (joined_push literal_word xs i none c.loop-literal-test.true) in
+    adds_as more (adds_then (adds_then c.loop-literal.invariant c.add_to.ensures) c.add.ensures)
+
+pub returns : goal.returns
+returns c =
+    let all = ap (flat_map literal_word) (take_all c.loop-literal.literal-index c.args.self.now.0.now c.loop-literal-test.false) in
+    adds_then (adds_as all c.loop-literal.invariant) c.add-2.ensures
