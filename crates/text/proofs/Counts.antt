@@ -1,9 +1,9 @@
 -- A number of clauses beyond the number of words reads like any other such number.
-use Rattle.std.proofs.Common.{◌≡◌, ℕ, zero, suc, ◌<◌, min, Bool, true, false, cond, List, [], ◌∷◌, length, Ok, Err, refl, ap, arith}
-use Rattle.cnf.specs.Arranging.{Arrangement, joined_by}
+use Rattle.std.proofs.Common.{◌≡◌, ℕ, zero, suc, ◌<◌, cond, List, [], ◌∷◌, length, Ok, refl, arith}
+use Rattle.cnf.specs.Arranging.{Arrangement}
 use Rattle.words.specs.Lexis.{Shape, name, number, end, is_zero}
 use Rattle.words.specs.Texts.{At}
-use Rattle.text.specs.Formulas.{between, inside, moved, closes, joins_clause, literal_of, with_clause, follows, reads}
+use Rattle.text.specs.Formulas.{between, inside, moved, closes, joins_clause, follows, reads}
 use Rattle.text.specs.Grammar.{HugeCountsReadAlike}
 
 -- a number inside a clause
@@ -12,14 +12,7 @@ number_alike : (n v k j : ℕ) (a : Arrangement) (w : List ℕ) (place : ℕ) (m
     → ((b : Arrangement) → reads n (inside v k b) more ≡ reads n (inside v j b) more)
     → follows (cond (is_zero w) (closes v k a) (joins_clause v k a w place)) (λ t. reads n t more)
     ≡ follows (cond (is_zero w) (closes v j a) (joins_clause v j a w place)) (λ t. reads n t more)
-number_alike n v k j a w place more after on = go (is_zero w) a
-  where
-    go : (z : Bool) (b : Arrangement)
-        → follows (cond z (closes v k b) (joins_clause v k b w place)) (λ t. reads n t more)
-        ≡ follows (cond z (closes v j b) (joins_clause v j b w place)) (λ t. reads n t more)
-    go true (Ok c) = ap (with_clause c) after
-    go true (Err fault) = refl
-    go false b = on (joined_by (min v 512) b (literal_of w) place)
+number_alike n v k j a w place more after on = grind (arith, after, on)
 
 -- between clauses, and inside one
 alike : (n v k j : ℕ) (ws : List At) → length ws < k → length ws < j

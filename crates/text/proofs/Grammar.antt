@@ -1,6 +1,6 @@
 -- A text reads as a formula exactly when its words make that formula.
 use Rattle.std.proofs.Common.{◌≡◌, ℕ, zero, suc, ◌^◌, ◌<◌, ◌≤◌, min, Bool, true, false, cond, ◌||◌, eqb, ltb, List, [], ◌∷◌, length, Ok, Err, All, sym, refl, ap, ◌∙◌, subst, arith}
-use Rattle.std.proofs.lemmas.Bool.{or_from, or_parts, cond-true, cond-false, ltb-false, le-ltb}
+use Rattle.std.proofs.lemmas.Bool.{or_from, or_parts, cond-false, ltb-false, le-ltb}
 use Rattle.std.proofs.lemmas.List.{length-map}
 use Rattle.std.proofs.lemmas.List.Elements.{All-head, All-tail}
 use Rattle.cnf.specs.declared.literals.Literal.{Literal}
@@ -28,34 +28,24 @@ ToldShape s = elim s as (λ _. Type 0) [ name w ↦ numeral w ≡ false | number
 
 -- a fault is no formula
 no_formula : (fault : TextFault) (f : Formula') → ◌≡◌ {A = Read} (Err fault) (Ok f) → ⊥
-no_formula fault f e = let z : ◌≡◌ {A = ℕ} 0 1 = cc in omega arith
+no_formula fault f e = cc
 
 -- a clause ahead of a formula
 with_ok : (c : Clause) (r : Read) (f : Formula') → with_clause c r ≡ Ok f
     → (g : Formula') × (r ≡ Ok g) × (f.highest ≡ g.highest) × (f.all ≡ c ∷ g.all)
-with_ok c (Ok g) f e =
-    let q : f ≡ record { highest = g.highest; all = c ∷ g.all } = cc in
-    (g, refl, ap (λ (x : Formula'). x.highest) q, ap (λ (x : Formula'). x.all) q)
+with_ok c (Ok g) f e = (g, refl, cc, cc)
 with_ok c (Err fault) f e = absurd (no_formula fault f e)
 
 -- a clause with a fault makes no formula
 module _ (n v k : ℕ) (more : List At) (f : Formula') (on : (b : ClauseFault) → reads n (inside v k (Err b)) more ≡ Ok f → ⊥) (place : ℕ) where
   joined_faulty : (b : ClauseFault) (l : Literal) → reads n (inside v k (joined_by (min v 512) (Err b) l place)) more ≡ Ok f → ⊥
   joined_faulty (OutOfRange first) l e = on (OutOfRange first) e
-  joined_faulty (Repeated first) l e = pick (outside (min v 512) l) e
-    where
-      pick : (o : Bool) → reads n (inside v k (cond o (Err (OutOfRange place)) (Err (Repeated first)))) more ≡ Ok f → ⊥
-      pick true e = on (OutOfRange place) e
-      pick false e = on (Repeated first) e
+  joined_faulty (Repeated first) l e = grind (arith, on)
 
   word_faulty : (b : ClauseFault) (s : Shape) → follows (moved (inside v k (Err b)) s place) (λ t. reads n t more) ≡ Ok f → ⊥
   word_faulty b (name w) e = no_formula _ f e
   word_faulty b end e = no_formula _ f e
-  word_faulty b (number w) e = pick (is_zero w) e
-    where
-      pick : (z : Bool) → follows (cond z (closes v k (Err b)) (joins_clause v k (Err b) w place)) (λ t. reads n t more) ≡ Ok f → ⊥
-      pick true e = no_formula _ f e
-      pick false e = joined_faulty b (literal_of w) e
+  word_faulty b (number w) e = grind (arith, no_formula, joined_faulty b (literal_of w))
 
 faulty : (n v k : ℕ) (b : ClauseFault) (ws : List At) (f : Formula') → reads n (inside v k (Err b)) ws ≡ Ok f → ⊥
 faulty n v k b [] f e = no_formula _ f e
@@ -85,8 +75,7 @@ joined_ok : (n v k place : ℕ) (seen d : Clause) (l : Literal) (more : List At)
     → reads n (inside v k (joined_by (min v 512) (Ok d) l place)) more ≡ Ok f → Joined n v k place seen d l more f
 joined_ok n v k place seen d l more f few same e =
     let cap : min v 512 ≡ v = omega arith in
-    go (outside v l) refl (names l.variable d) refl
-    (ap (λ (h : ℕ). reads n (inside v k (joined_by h (Ok d) l place)) more) (sym cap) ∙ e)
+    go (outside v l) refl (names l.variable d) refl (rw cap at e)
   where
     go : (o : Bool) → outside v l ≡ o → (m : Bool) → names l.variable d ≡ m
         → reads n (inside v k (cond o (Err (OutOfRange place)) (cond m (Err (Repeated place)) (Ok (inserted earlier l d))))) more ≡ Ok f
@@ -204,14 +193,14 @@ name_read : (n : ℕ) (s t : State) (test : List ℕ → Bool)
     → (ws : List At) (f : Formula') → All Told ws → reads n s ws ≡ Ok f
     → (p : List ℕ) × (test p ≡ true) × Expected n t (name p) ws f
 name_read n s t test names numbers ends [] f told e =
-    absurd (no_formula _ f (ap (λ (m : Moved). follows m (λ u. Err (Count n))) (sym (ends n)) ∙ e))
+    absurd (no_formula _ f (rw (ends n) at e))
 name_read n s t test names numbers ends (a ∷ more) f told e = go a.word refl e
   where
     go : (shape : Shape) → a.word ≡ shape → follows (moved s shape a.place) (λ u. reads n u more) ≡ Ok f
         → (p : List ℕ) × (test p ≡ true) × Expected n t (name p) (a ∷ more) f
-    go (number w) is e = absurd (no_formula _ f (ap (λ (m : Moved). follows m (λ u. reads n u more)) (sym (numbers w a.place)) ∙ e))
-    go end is e = absurd (no_formula _ f (ap (λ (m : Moved). follows m (λ u. reads n u more)) (sym (ends a.place)) ∙ e))
-    go (name w) is e = pick (test w) refl (ap (λ (m : Moved). follows m (λ u. reads n u more)) (sym (names w a.place)) ∙ e)
+    go (number w) is e = absurd (no_formula _ f (rw (numbers w a.place) at e))
+    go end is e = absurd (no_formula _ f (rw (ends a.place) at e))
+    go (name w) is e = pick (test w) refl (rw (names w a.place) at e)
       where
         pick : (b : Bool) → test w ≡ b → follows (cond b (moves t nothing) (refuses (Word a.place))) (λ u. reads n u more) ≡ Ok f
             → (p : List ℕ) × (test p ≡ true) × Expected n t (name p) (a ∷ more) f
@@ -249,7 +238,7 @@ body_read n v (a ∷ more) f told e = go a.word refl e
         pick : (b : Bool) → natural w ≡ b → (many : Bool) → ltb 512 v ≡ many
             → follows (cond b (moves (between v (counted w)) (heading v)) (refuses (Word a.place))) (λ t. reads n t more) ≡ Ok f
             → (c : List ℕ) × (natural c ≡ true) × (v ≤ 512) × Expected n (between v (counted c)) (number c) (a ∷ more) f
-        pick true h many l e = seen many l (ap (λ (b : Bool). cond b (Err Variables) (reads n (between v (counted w)) more)) (sym l) ∙ e)
+        pick true h many l e = seen many l (rw l at e)
           where
             seen : (many : Bool) → ltb 512 v ≡ many → cond many (Err Variables) (reads n (between v (counted w)) more) ≡ Ok f
                 → (c : List ℕ) × (natural c ≡ true) × (v ≤ 512) × Expected n (between v (counted c)) (number c) (a ∷ more) f
@@ -333,7 +322,7 @@ behind (a ∷ rest) s more e = record { a = a; rest = rest; is = refl; word = cc
 takes : (n : ℕ) (s : State) (ws : List At) (shape : Shape) (more : List Shape) (b : Behind ws shape more)
     → reads n s ws ≡ follows (moved s shape b.a.place) (λ t. reads n t b.rest)
 takes n s ws shape more b =
-    ap (reads n s) b.is ∙ ap (λ (x : Shape). follows (moved s x b.a.place) (λ t. reads n t b.rest)) b.word
+    rw (b.is, b.word)
 
 -- a clause's words read as the clause, from a state that takes a number as inside it
 record Taken (n v k : ℕ) (s : State) (d : Clause) (ls : List Literal) (ws : List At) (rest : List Shape) : Type 0 where
@@ -353,7 +342,7 @@ clause_taken n v k few s seen d same as-inside [] ws rest h in_range apart =
       are = b.others;
       read =
           takes n s ws (number w) rest b
-          ∙ ap (λ (m : Moved). follows m (λ t. reads n t b.rest)) (as-inside w b.a.place ∙ cond-true (is_zero w) _ _ h.1);
+          ∙ rw (as-inside w b.a.place, h.1);
     }
 clause_taken n v k few s seen d same as-inside (l ∷ ls) ws rest h in_range apart =
     let w = h.0 in
@@ -364,7 +353,7 @@ clause_taken n v k few s seen d same as-inside (l ∷ ls) ws rest h in_range apa
     let u = or_parts (names l.variable seen) (repeats (l ∷ seen) ls) apart in
     let cap : min v 512 ≡ v = omega arith in
     let joins : joined_by v (Ok d) l q ≡ Ok (inserted earlier l d) =
-    cond-false (outside v l) _ _ r.0 ∙ cond-false (names l.variable d) _ _ (same l.variable ∙ u.0) in
+    rw (r.0, same l.variable, u.0) in
     let more = subst (λ (x : List Shape). ClauseWords x ls rest) (sym b.others) h.5 in
     let t = clause_taken n v k few (inside v k (Ok (inserted earlier l d))) (l ∷ seen) (inserted earlier l d) (more_same l seen d same) (λ x y. refl) ls b.rest rest more r.1 u.1 in
     record {
@@ -411,17 +400,11 @@ grammar_read text f fits g =
     let capped_is : capped g.v ≡ h = omega arith in
     let counted_is : counted g.c ≡ length f.all = omega arith in
     takes n before ws (name g.p) _ one
-    ∙ ap (λ (m : Moved). follows m (λ t. reads n t one.rest)) (cond-true (is_p g.p) _ _ g.says_p)
-    ∙ takes n format one.rest (name g.cnf) _ two
-    ∙ ap (λ (m : Moved). follows m (λ t. reads n t two.rest)) (cond-true (is_cnf g.cnf) _ _ g.says_cnf)
-    ∙ takes n variables two.rest (number g.v) _ three
-    ∙ ap (λ (m : Moved). follows m (λ t. reads n t three.rest)) (cond-true (natural g.v) _ _ g.v_unsigned)
-    ∙ ap (λ (k : ℕ). reads n (clauses k) three.rest) capped_is
-    ∙ takes n (clauses h) three.rest (number g.c) _ four
-    ∙ ap (λ (m : Moved). follows m (λ t. reads n t rest)) (cond-true (natural g.c) _ _ g.c_unsigned)
-    ∙ cond-false (ltb 512 h) (Err Variables) (reads n (between h (counted g.c)) rest) (le-ltb 512 h few)
-    ∙ ap (λ (k : ℕ). reads n (between h k) rest) counted_is
-    ∙ clauses_taken n h few f.all rest (subst (λ (x : List Shape). ClausesWords h x f.all) (sym four.others) g.clauses)
+    ∙ rw g.says_p (takes n format one.rest (name g.cnf) _ two
+    ∙ rw g.says_cnf (takes n variables two.rest (number g.v) _ three
+    ∙ rw (g.v_unsigned, capped_is) (takes n (clauses h) three.rest (number g.c) _ four
+    ∙ rw (g.c_unsigned, le-ltb 512 h few, counted_is)
+    (clauses_taken n h few f.all rest (subst (λ (x : List Shape). ClausesWords h x f.all) (sym four.others) g.clauses)))))
 
 pub read_by_grammar : ReadByGrammar
 read_by_grammar text f fits = (by_grammar text f fits, grammar_read text f fits)

@@ -1,6 +1,5 @@
 -- What is read is in standard form.
-use Rattle.std.proofs.Common.{◌≡◌, ℕ, zero, suc, ◌≤◌, min, Bool, true, false, cond, ltb, List, [], ◌∷◌, length, Ok, Err, All, sym, refl, subst, inl, inr, arith}
-use mathlib.Core.List.Memᴰ
+use Rattle.std.proofs.Common.{◌≡◌, ℕ, zero, suc, ◌≤◌, min, Bool, true, false, cond, ltb, List, [], ◌∷◌, length, Ok, Err, All, sym, refl, subst, inl, inr, arith, rules}
 use Rattle.std.proofs.lemmas.Bool.{ltb-false}
 use Rattle.std.proofs.lemmas.List.Elements.{All-nil, All-cons}
 use Rattle.cnf.specs.declared.literals.Literal.{Literal}
@@ -25,11 +24,7 @@ Sound h (Err fault) = Unit {0}
 
 joined_sound : (h : ℕ) (a : Arrangement) (l : Literal) (place : ℕ) → Sound h a → Sound h (joined_by h a l place)
 joined_sound h (Err (OutOfRange first)) l place s = tt
-joined_sound h (Err (Repeated first)) l place s = go (outside h l)
-  where
-    go : (b : Bool) → Sound h (cond b (Err (OutOfRange place)) (Err (Repeated first)))
-    go true = tt
-    go false = tt
+joined_sound h (Err (Repeated first)) l place s = grind arith
 joined_sound h (Ok c) l place s = go (outside h l) refl (names l.variable c) refl
   where
     go : (b : Bool) → outside h l ≡ b → (d : Bool) → names l.variable c ≡ d
@@ -70,14 +65,10 @@ closes_keeps v u left (Err fault) e s = tt
 
 number_keeps : (v u left : ℕ) (a : Arrangement) (w : List ℕ) (place : ℕ) → u ≡ v → Sound (min u 512) a
     → Keeps v (cond (is_zero w) (closes u left a) (joins_clause u left a w place))
-number_keeps v u left a w place e s = go (is_zero w)
-  where
-    go : (b : Bool) → Keeps v (cond b (closes u left a) (joins_clause u left a w place))
-    go true = closes_keeps v u left a e s
-    go false = ((e, joined_sound (min u 512) a (literal_of w) place s), tt)
+number_keeps v u left a w place e s = grind (arith, closes_keeps v u left a e s, joined_sound (min u 512) a (literal_of w) place s)
 
 empty_clause : (h : ℕ) → IsClause h []
-empty_clause h = record { rising = tt; within = λ k m. absurd (Memᴰ.not-nil m) }
+empty_clause h = search rules
 
 moved_keeps : (v : ℕ) (s : State) (shape : Shape) (place : ℕ) → Over v s → Keeps v (moved s shape place)
 moved_keeps v before shape place o = absurd o
@@ -165,11 +156,7 @@ moved_begins (inside v left a) shape place e = absurd e
 
 -- a completed heading has at most 512 variables
 headed : (v : ℕ) (r : Read) → (v ≤ 512 → StandardRead r) → StandardRead (cond (ltb 512 v) (Err Variables) r)
-headed v r h = go (ltb 512 v) refl
-  where
-    go : (b : Bool) → ltb 512 v ≡ b → StandardRead (cond b (Err Variables) r)
-    go true e = tt
-    go false e = h (ltb-false 512 v e)
+headed v r h = grind (arith, ltb-false)
 
 follows_standard : (m : Moved) (on : State → Read) → Begins m → ((t : State) → Early t → StandardRead (on t))
     → ((v : ℕ) (t : State) → Over v t → Has v (on t)) → StandardRead (follows m on)

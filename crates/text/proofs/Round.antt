@@ -4,21 +4,20 @@ use mathlib.Core.List.Memᴰ
 use mathlib.Core.List.Memᴰ.{head as here}
 use mathlib.Core.List.Memᴰ.{tail as there}
 use Rattle.std.specs.List.{flat_map}
-use Rattle.std.proofs.lemmas.Bool.{cond-true, cond-false, or_from, ne_eqb, le-ltb}
+use Rattle.std.proofs.lemmas.Bool.{cond-false, or_from, ne_eqb, le-ltb}
 use Rattle.std.proofs.lemmas.List.{append-nil, take_at}
 use Rattle.std.proofs.lemmas.List.Elements.{All-nil, All-cons, All-head, All-tail}
 use Rattle.cnf.specs.declared.literals.Literal.{Literal}
 use Rattle.cnf.specs.Clauses.{Clause, ◌∈◌, Rising, Within, IsClause}
-use Rattle.cnf.specs.Arranging.{Arrangement, outside, names, joined_by}
+use Rattle.cnf.specs.Arranging.{joined_by}
 use Rattle.cnf.proofs.Arranging.{inserted_last, names_not, in_push}
 use Rattle.words.specs.declared.lexis.Mode.{Mode}
 use Rattle.words.specs.declared.lexis.Mode.TheVariants.{Fresh, Within as InLine, Comment}
-use Rattle.words.specs.Lexis.{Shape, number, passes, natural, is_zero}
-use Rattle.words.specs.Texts.{At, words_from}
+use Rattle.words.specs.Lexis.{number, passes, is_zero}
+use Rattle.words.specs.Texts.{words_from}
 use Rattle.words.proofs.Spoken.{Solid, Spelled, spoken_none, spoken_space, spoken_line, spoken_word, decimal_natural, decimal_value, decimal_spelled, minus_spelled, decimal_not_zero, minus_not_zero, decimal_no_minus}
 use Rattle.lines.specs.Texts.{literal_text, literal_word, clause_line, formula_text}
-use Rattle.text.specs.declared.faults.TextFault.TheVariants.{Variables}
-use Rattle.text.specs.Formulas.{State, heading, variable_count, before, format, variables, clauses, between, inside, Moved, moves, moved, capped, counted, literal_of, Formula', Read, with_clause, follows, reads, formula_of}
+use Rattle.text.specs.Formulas.{State, before, format, variables, clauses, between, inside, moved, capped, counted, literal_of, Formula', Read, with_clause, reads, formula_of}
 use Rattle.lines.specs.declared.faults.WriteFault.{WriteFault}
 use Rattle.lines.specs.Writes.{Writes}
 use Rattle.lines.proofs.Chains.{writes_ok}
@@ -83,16 +82,14 @@ number_space : (m : Mode) → Reading m → (p : ℕ) (w rest : List ℕ) → Sp
     → words_from m p (w ++ 32 ∷ rest) ≡ record { word = number w; place = p } ∷ words_from InLine (suc (p + length w)) rest
 number_space m r p w rest s =
     spoken_word m p w 32 rest s.some s.solid (opens m r w s) refl
-    ∙ ap (λ (t : Shape). record { word = t; place = p } ∷ words_from InLine (p + length w) (32 ∷ rest)) s.is_number
-    ∙ ap (λ (l : List At). record { word = number w; place = p } ∷ l) (spoken_space (p + length w) rest)
+    ∙ rw (s.is_number, spoken_space (p + length w) rest)
 
 -- a number with a line feed behind it
 number_line : (m : Mode) → Reading m → (p : ℕ) (w rest : List ℕ) → Spelled w
     → words_from m p (w ++ 10 ∷ rest) ≡ record { word = number w; place = p } ∷ words_from Fresh (suc (p + length w)) rest
 number_line m r p w rest s =
     spoken_word m p w 10 rest s.some s.solid (opens m r w s) refl
-    ∙ ap (λ (t : Shape). record { word = t; place = p } ∷ words_from InLine (p + length w) (10 ∷ rest)) s.is_number
-    ∙ ap (λ (l : List At). record { word = number w; place = p } ∷ l) (spoken_line (p + length w) rest)
+    ∙ rw (s.is_number, spoken_line (p + length w) rest)
 
 -- the word 0
 zero_spelled : Spelled (48 ∷ [])
@@ -102,9 +99,11 @@ zero_spelled = record { some = omega arith; solid = All-cons Solid 48 [] refl (A
 joins : (h : ℕ) (d : Clause) (l : Literal) (p : ℕ) → 1 ≤ l.variable → l.variable ≤ h
     → ((k : Literal) → k ∈ d → k.variable < l.variable) → joined_by h (Ok d) l p ≡ Ok (d ++ l ∷ [])
 joins h d l p low high below =
-    cond-false (outside h l) _ _ (or_from (eqb l.variable 0) (ltb h l.variable) (ne_eqb l.variable 0 (λ e. omega arith)) (le-ltb h l.variable high))
-    ∙ cond-false (names l.variable d) _ _ (names_not l.variable d below)
-    ∙ ap (λ (c : Clause). Ok c) (inserted_last l d below)
+    rw (
+      or_from (eqb l.variable 0) (ltb h l.variable) (ne_eqb l.variable 0 (λ e. omega arith)) (le-ltb h l.variable high),
+      names_not l.variable d below,
+      inserted_last l d below,
+    )
 
 -- what is left of a clause: above the literals before it, by rising variable, within the range
 pub record Follows (h : ℕ) (d ls : Clause) : Type 0 where
@@ -129,9 +128,7 @@ clause_reads : (n v k : ℕ) (s : State) (m : Mode) → v ≤ 512 → Reading m 
     → reads n s (words_from m p (flat_map literal_word ls ++ (48 ∷ 10 ∷ rest))) ≡ with_clause (d ++ ls) after
 clause_reads n v k s m few reading p d [] rest after same f then =
     ap (reads n s) (number_line m reading p (48 ∷ []) rest zero_spelled)
-    ∙ ap (λ (o : Moved). follows o (λ t. reads n t (words_from Fresh (suc (p + 1)) rest))) (same (48 ∷ []) p)
-    ∙ ap (with_clause d) (then (suc (p + 1)))
-    ∙ ap (λ (c : Clause). with_clause c after) (sym (append-nil d))
+    ∙ rw (same (48 ∷ []) p, then (suc (p + 1)), append-nil d)
 clause_reads n v k s m few reading p d (l ∷ ls) rest after same f then =
     let range = f.within l (here refl) in
     let low = range.0 in
@@ -142,14 +139,9 @@ clause_reads n v k s m few reading p d (l ∷ ls) rest after same f then =
     let far = suc (p + length text) in
     let cap : min v 512 ≡ v = omega arith in
     let on : State → Read = λ t. reads n t (words_from InLine far more) in
-    ap (λ (l : List ℕ). reads n s (words_from m p l)) (line l ls rest)
-    ∙ ap (reads n s) (number_space m reading p text more w.spelled)
-    ∙ ap (λ (o : Moved). follows o on) (same text p ∙ cond-false (is_zero text) _ _ w.not_zero)
-    ∙ ap (λ (x : Literal). on (inside v k (joined_by (min v 512) (Ok d) x p))) w.reads_as
-    ∙ ap (λ (h : ℕ). on (inside v k (joined_by h (Ok d) l p))) cap
-    ∙ ap (λ (a : Arrangement). on (inside v k a)) (joins v d l p low high (λ i o. f.above i l o (here refl)))
-    ∙ clause_reads n v k (inside v k (Ok (d ++ l ∷ []))) InLine few tt far (d ++ l ∷ []) ls rest after (λ w q. refl) (follows_on v d l ls f) then
-    ∙ ap (λ (c : Clause). with_clause c after) (append_assoc d (l ∷ []) ls)
+    rw (line l ls rest, number_space m reading p text more w.spelled, same text p, w.not_zero, w.reads_as, cap)
+    (rw (joins v d l p low high (λ i o. f.above i l o (here refl)), ← append_assoc d (l ∷ []) ls)
+    (clause_reads n v k (inside v k (Ok (d ++ l ∷ []))) InLine few tt far (d ++ l ∷ []) ls rest after (λ w q. refl) (follows_on v d l ls f) then))
   where
     line : (l : Literal) (ls : Clause) (rest : List ℕ)
         → flat_map literal_word (l ∷ ls) ++ (48 ∷ 10 ∷ rest) ≡ literal_text l ++ (32 ∷ (flat_map literal_word ls ++ (48 ∷ 10 ∷ rest)))
@@ -171,13 +163,9 @@ module _ (n v c : ℕ) (few : v ≤ 512) (fits : c < 2 ^ 64) (rest : List ℕ) w
   count_reads : (p : ℕ) (after : Read) → ((q : ℕ) → reads n (between v c) (words_from Fresh q rest) ≡ after)
       → reads n (clauses v) (words_from InLine p (decimal c ++ (10 ∷ rest))) ≡ after
   count_reads p after then =
-      let on : State → Read = λ t. reads n t (words_from Fresh (suc (p + length (decimal c))) rest) in
       let same : counted (decimal c) ≡ c = let e = decimal_value c fits in omega arith in
       ap (reads n (clauses v)) (number_line InLine tt p (decimal c) rest (decimal_spelled c fits))
-      ∙ ap (λ (o : Moved). follows o on) (cond-true (natural (decimal c)) (moves (between v (counted (decimal c))) (heading v)) _ (decimal_natural c fits))
-      ∙ cond-false (ltb 512 v) (Err Variables) (on (between v (counted (decimal c)))) (le-ltb 512 v few)
-      ∙ ap (λ (k : ℕ). on (between v k)) same
-      ∙ then (suc (p + length (decimal c)))
+      ∙ rw (decimal_natural c fits, le-ltb 512 v few, same) (then (suc (p + length (decimal c))))
 
   -- from the number of variables on
   variables_read : (p : ℕ) (after : Read) → ((q : ℕ) → reads n (between v c) (words_from Fresh q rest) ≡ after)
@@ -185,12 +173,9 @@ module _ (n v c : ℕ) (few : v ≤ 512) (fits : c < 2 ^ 64) (rest : List ℕ) w
   variables_read p after then =
       let more = decimal c ++ (10 ∷ rest) in
       let small : v < 2 ^ 64 = omega arith in
-      let on : State → Read = λ t. reads n t (words_from InLine (suc (p + length (decimal v))) more) in
       let same : capped (decimal v) ≡ v = let e = decimal_value v small in omega arith in
       ap (reads n variables) (number_space InLine tt p (decimal v) more (decimal_spelled v small))
-      ∙ ap (λ (o : Moved). follows o on) (cond-true (natural (decimal v)) (moves (clauses (capped (decimal v))) (variable_count (capped (decimal v)) p)) _ (decimal_natural v small))
-      ∙ ap (λ (k : ℕ). on (clauses k)) same
-      ∙ count_reads (suc (p + length (decimal v))) after then
+      ∙ rw (decimal_natural v small, same) (count_reads (suc (p + length (decimal v))) after then)
 
   pub heading_reads : (after : Read) → ((q : ℕ) → reads n (between v c) (words_from Fresh q rest) ≡ after)
       → reads n before (words_from Fresh 0 (112 ∷ 32 ∷ 99 ∷ 110 ∷ 102 ∷ 32 ∷ (decimal v ++ (32 ∷ (decimal c ++ (10 ∷ rest)))))) ≡ after

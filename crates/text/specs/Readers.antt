@@ -1,6 +1,6 @@
 -- What a reader of formulas holds and tells.
 use Rattle.std.specs.Prelude.{◌≡◌, ℕ, List, [], Ok, Err, Result}
-use Rattle.cnf.specs.Clauses.{Clause}
+use Rattle.std.specs.Result.{result_unwrap_or}
 use Rattle.cnf.specs.Arranging.{Arrangement}
 use Rattle.cnf.specs.Drafts.{outcome}
 use Rattle.words.specs.Texts.{At, next_of}
@@ -14,17 +14,18 @@ use Rattle.text.specs.declared.formulas.Step.TheVariants.{More, Variables as Var
 use Rattle.text.specs.declared.formulas.FormulaReader.{FormulaReader}
 use Rattle.text.specs.Formulas.{State, before, format, variables, clauses, between, inside, Item, nothing, variable_count, heading, clause, whole, Moved, refuses, moves, moved}
 
-abbrev pub standing : Position → (v remaining : ℕ) → Arrangement → State
-standing Before v remaining a = before
-standing (Heading Format) v remaining a = format
-standing (Heading Variables) v remaining a = variables
-standing (Heading Clauses) v remaining a = clauses v
-standing Between v remaining a = between v remaining
-standing Inside v remaining a = inside v remaining a
+-- the state at a position, over v variables, with a clause so far
+abbrev pub standing : Position → (v : ℕ) → Arrangement → State
+standing Before v a = before
+standing (Heading Format) v a = format
+standing (Heading Variables) v a = variables
+standing (Heading Clauses) v a = clauses v
+standing (Between remaining) v a = between v remaining
+standing (Inside remaining) v a = inside v remaining a
 
 -- where a reader stands
 abbrev pub state_of : FormulaReader → State
-state_of r = standing r.position r.variables r.remaining (outcome r.draft)
+state_of r = standing r.position r.variables (outcome r.draft)
 
 -- the words that it has still to take
 abbrev pub words_left : FormulaReader → List At
@@ -34,17 +35,12 @@ words_left r = left r.words
 abbrev pub extent_of : FormulaReader → ℕ
 extent_of r = extent r.words
 
--- the clause of an arrangement, which is empty where there is a fault
-abbrev pub clause_in : Arrangement → Clause
-clause_in (Ok c) = c
-clause_in (Err fault) = []
-
 -- what a step says of the reader behind it
 abbrev pub item_of : Step → FormulaReader → Item
 item_of More r = nothing
 item_of (VariableCount count place) r = variable_count count place
 item_of WholeHeading r = heading r.variables
-item_of OneClause r = clause (clause_in (outcome r.draft))
+item_of OneClause r = clause (result_unwrap_or (outcome r.draft) [])
 item_of End r = whole r.variables
 
 -- a reader's answer to a word, with its state behind it

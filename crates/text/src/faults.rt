@@ -4,9 +4,11 @@ ghost use Rattle.text.specs.Faults.{number_of, layer_of, place_of};
 ghost use Rattle.text.specs.declared.faults.TextFault.TheVariants.{Clause};
 
 use cnf::faults::{ClauseFault, Layer};
+use thiserror::Error;
 
 /// What is wrong with a text. A place is the first byte of the word at fault, or the text's length at its end.
-#[derive(Clone, Copy)]
+#[derive(Clone, Copy, PartialEq, Eq, Debug, Error)]
+#[error("refused {} {}", self.number(), self.place())]
 pub enum TextFault {
     /// A word that is not allowed there.
     Word { place: usize },
@@ -60,9 +62,9 @@ impl TextFault {
         ensures { result ≡ place_of self }
     {
         match self {
-            TextFault::Word { place } => place,
-            TextFault::Count { place } => place,
-            TextFault::Unfinished { place } => place,
+            TextFault::Word { place }
+            | TextFault::Count { place }
+            | TextFault::Unfinished { place } => place,
             TextFault::Clause(fault) => fault.place(),
             TextFault::Variables => 0,
         }

@@ -7,20 +7,20 @@ use words::reader::Words;
 pub mod reading;
 
 /// Where a reader of a formula stands.
-#[derive(Clone, Copy)]
+#[derive(Clone, Copy, PartialEq, Eq, Debug)]
 pub enum Position {
     /// Before the heading.
     Before,
     /// In the heading.
     Heading(Due),
-    /// Between clauses.
-    Between,
-    /// Inside a clause.
-    Inside,
+    /// Between clauses, of which so many are left.
+    Between { remaining: u64 },
+    /// Inside a clause, behind which so many are left.
+    Inside { remaining: u64 },
 }
 
 /// The word of a heading that comes next.
-#[derive(Clone, Copy)]
+#[derive(Clone, Copy, PartialEq, Eq, Debug)]
 pub enum Due {
     Format,
     Variables,
@@ -28,7 +28,7 @@ pub enum Due {
 }
 
 /// What a word has completed.
-#[derive(Clone, Copy)]
+#[derive(Clone, Copy, PartialEq, Eq, Debug)]
 pub enum Step {
     /// Nothing yet.
     More,
@@ -48,7 +48,6 @@ pub struct FormulaReader<'a> {
     words: Words<'a>,
     position: Position,
     variables: u16,
-    remaining: u64,
     draft: Draft,
     ghost over: { draft.highest ≡ min variables 512 },
 }

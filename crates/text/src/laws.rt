@@ -3,22 +3,16 @@ ghost use Rattle.text.specs.Grammar.{ReadByGrammar, ReadInStandardForm, HugeCoun
 
 /// A text reads as a formula exactly when its words are `p`, `cnf`, the number of variables, the number of clauses,
 /// and then those clauses, each its literals and `0`.
-pub fn texts_are_read_by_their_grammar() -> u8
+pub fn texts_are_read_by_their_grammar()
     ensures { ReadByGrammar }
-{
-    0
-}
+{}
 
 /// Whatever a text reads as is in standard form.
-pub fn formulas_are_read_in_standard_form() -> u8
+pub fn formulas_are_read_in_standard_form()
     ensures { ReadInStandardForm }
-{
-    0
-}
+{}
 
 /// A number of clauses too large for its type reads as it should: beyond the number of words all numbers read alike.
-pub fn huge_counts_read_alike() -> u8
+pub fn huge_counts_read_alike()
     ensures { HugeCountsReadAlike }
-{
-    0
-}
+{}

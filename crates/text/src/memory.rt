@@ -6,25 +6,30 @@ ghost use Rattle.text.specs.declared.memory.ReadFault.TheVariants.{Text, Memory}
 
 use crate::faults::TextFault;
 use crate::formulas::{FormulaReader, Step};
+use cnf::drafts::MOST_VARIABLES;
 use cnf::literals::Literal;
 use std::alloc::{AllocError, AllocFailed, Global};
+use thiserror::Error;
 
 /// A formula: how many variables it has, and its clauses.
-#[derive(Drop)]
+#[derive(Debug, Drop, PartialEq, Eq)]
 pub struct Formula {
     pub variables: u16,
     pub clauses: Vec<Vec<Literal>>,
 }
 
 /// Why a formula is not read.
-#[derive(Drop)]
+#[derive(Debug, Drop, PartialEq, Eq, Error)]
 pub enum ReadFault {
     /// What is wrong with the text.
+    #[error(transparent)]
     Text(TextFault),
     /// There is not enough memory.
+    #[error("not enough memory")]
     Memory,
 }
 
+// The three From are written by hand, since a contract names the fault that `?` makes, and a derived From has none.
 impl From<TextFault> for ReadFault {
     ghost from_gives = { λ fault r. r ≡ Text fault };
 
@@ -58,11 +63,10 @@ pub fn read_formula(heap: Global, text: &[u8]) -> Result<Formula, ReadFault>
     loop {
         match reader.step()? {
             Step::More | Step::Variables { .. } => {}
-            Step::Heading => {
-                if reader.variables() > 512 {
-                    return Err(ReadFault::Text(TextFault::Variables));
-                }
+            Step::Heading if reader.variables() > MOST_VARIABLES => {
+                return Err(TextFault::Variables.into());
             }
+            Step::Heading => {}
             Step::Clause => clauses.push(Vec::from_slice(heap, reader.clause())?)?,
             Step::End => {
                 let variables = reader.variables();

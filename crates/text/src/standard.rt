@@ -5,21 +5,26 @@ ghost use Rattle.lines.specs.Writes.{Writes};
 ghost use Rattle.text.specs.Memory.{formula_in};
 ghost use Rattle.text.specs.Standard.{text_of, standard_text, Prints};
 ghost use Rattle.text.specs.Round.{ReadsBack, ReadsAgain};
+ghost use Rattle.text.specs.declared.standard.PrintFault.TheVariants.{NoRoom};
 
 use crate::memory::{Formula, ReadFault, read_formula};
 use lines::faults::WriteFault;
 use lines::writers;
 use std::alloc::Global;
+use thiserror::Error;
 
 /// Why a text is not printed.
-#[derive(Drop)]
+#[derive(Debug, Drop, PartialEq, Eq, Error)]
 pub enum PrintFault {
     /// There is not enough room for it.
+    #[error("no room for the print")]
     NoRoom,
     /// There is not enough memory to read the text.
+    #[error("not enough memory")]
     Memory,
 }
 
+// Written by hand, since a contract names the fault that `?` makes, and a derived From has none.
 impl From<WriteFault> for PrintFault {
     ghost from_gives = { λ _ r. r ≡ NoRoom };
 
@@ -27,8 +32,6 @@ impl From<WriteFault> for PrintFault {
         PrintFault::NoRoom
     }
 }
-
-ghost use Rattle.text.specs.declared.standard.PrintFault.TheVariants.{NoRoom};
 
 /// Writes a formula at the start of `out`: its heading line, and then each clause's line.
 pub fn write_formula(out: &mut [u8], formula: &Formula) -> Result<usize, WriteFault>
@@ -43,15 +46,14 @@ pub fn print_standard(heap: Global, text: &[u8], out: &mut [u8]) -> Result<usize
     ensures prints { Prints out.old (standard_text text.now) result out.new }
     ensures again { ReadsAgain text.now result out.new }
 {
-    let end = match read_formula(heap, text) {
-        Ok(formula) => write_formula(out, &formula)?,
-        Err(ReadFault::Text(fault)) => writers::write_refusal(
+    match read_formula(heap, text) {
+        Ok(formula) => Ok(write_formula(out, &formula)?),
+        Err(ReadFault::Text(fault)) => Ok(writers::write_refusal(
             out,
             0,
             fault.number(),
             fault.place(),
-        )?,
-        Err(ReadFault::Memory) => return Err(PrintFault::Memory),
-    };
-    Ok(end)
+        )?),
+        Err(ReadFault::Memory) => Err(PrintFault::Memory),
+    }
 }

@@ -1,10 +1,10 @@
 //! Clauses: their order, their faults, and long ones.
 use crate::prints::prints;
+use anyhow::Result;
 use std::alloc::Global;
-use std::test::Fail;
 
 #[test]
-fn clauses(rt: HostRuntime) -> Result<(), Fail> {
+fn clauses(rt: HostRuntime) -> Result<()> {
     for (text, expected) in [
         (
             b"p cnf 3 3\n3 -1 2 0 0\n-3\n0".as_slice(),
@@ -33,7 +33,7 @@ fn clauses(rt: HostRuntime) -> Result<(), Fail> {
 }
 
 /// A clause of five thousand literals `1`, and then these words.
-fn long(heap: Global, last: &[u8], expected: &[u8]) -> Result<(), Fail> {
+fn long(heap: Global, last: &[u8], expected: &[u8]) -> Result<()> {
     let mut text = b"p cnf 1 1\n".to_vec(heap)?;
     for _ in 0..5000u16 {
         text.extend_from_slice(b"1 ")?;
@@ -43,7 +43,7 @@ fn long(heap: Global, last: &[u8], expected: &[u8]) -> Result<(), Fail> {
 }
 
 #[test]
-fn long_clauses(rt: HostRuntime) -> Result<(), Fail> {
+fn long_clauses(rt: HostRuntime) -> Result<()> {
     long(rt.alloc(), b"0", b"refused 5 12\n")?;
     long(rt.alloc(), b"2 0", b"refused 4 10010\n")?;
     long(rt.alloc(), b"x 0", b"refused 1 10010\n")?;

@@ -1,9 +1,9 @@
 //! Headings, comments and ends.
 use crate::prints::prints;
-use std::test::Fail;
+use anyhow::Result;
 
 #[test]
-fn headings(rt: HostRuntime) -> Result<(), Fail> {
+fn headings(rt: HostRuntime) -> Result<()> {
     for (text, expected) in [
         (b"p cnf 0 0".as_slice(), b"p cnf 0 0\n".as_slice()),
         (b"p cnf 512 0\n", b"p cnf 512 0\n"),
@@ -36,7 +36,7 @@ fn headings(rt: HostRuntime) -> Result<(), Fail> {
 }
 
 #[test]
-fn ends(rt: HostRuntime) -> Result<(), Fail> {
+fn ends(rt: HostRuntime) -> Result<()> {
     for (text, expected) in [
         (b"".as_slice(), b"refused 2 0\n".as_slice()),
         (b" \n\n", b"refused 2 3\n"),

@@ -1,9 +1,9 @@
 //! Numbers of every size and form.
 use crate::prints::prints;
-use std::test::Fail;
+use anyhow::Result;
 
 #[test]
-fn forms(rt: HostRuntime) -> Result<(), Fail> {
+fn forms(rt: HostRuntime) -> Result<()> {
     for (text, expected) in [
         (b"p cnf 03 0".as_slice(), b"refused 1 6\n".as_slice()),
         (b"p cnf 3 00", b"refused 1 8\n"),
@@ -23,7 +23,7 @@ fn forms(rt: HostRuntime) -> Result<(), Fail> {
 }
 
 #[test]
-fn sizes(rt: HostRuntime) -> Result<(), Fail> {
+fn sizes(rt: HostRuntime) -> Result<()> {
     for (text, expected) in [
         (b"p cnf 513 0".as_slice(), b"refused 7 0\n".as_slice()),
         (b"p cnf 513 x", b"refused 1 10\n"),
