@@ -1,15 +1,9 @@
 -- The marks of two sides together.
 use Rattle.std.proofs.Common.{◌≡◌, ℕ, zero, suc, ◌-◌, ◌≤◌, Bool, true, false, ◌||◌, ◌⊎◌, List, [], ◌∷◌, ◌++◌, length, get_or, set, sym, refl, ap, ◌∙◌, inl, inr, ⊎_elim, arith}
 use Rattle.std.proofs.lemmas.Bool.{both_ways, cases_eq}
-use Rattle.std.proofs.lemmas.List.{get_or-set_same, get_or-set_other}
+use Rattle.std.proofs.lemmas.List.{get_or-set_other, set-get_or}
 use Rattle.engine.specs.Meaning.{mark_in}
 use Rattle.core_first.specs.Core.{either}
-
--- a mark that is set to what it is
-set_same : (xs : List Bool) (i : ℕ) (b : Bool) → get_or xs i false ≡ b → set xs i b ≡ xs
-set_same [] i b e = refl
-set_same (x ∷ xs) zero b e = ap (λ (v : Bool). v ∷ xs) (sym e)
-set_same (x ∷ xs) (suc i) b e = ap (λ (vs : List Bool). x ∷ vs) (set_same xs i b e)
 
 set_off : (xs : List Bool) (i : ℕ) → get_or (set xs i false) i false ≡ false
 set_off [] i = refl
@@ -48,10 +42,7 @@ at_number xs zero h = absurd (omega arith)
 at_number xs (suc k) h = let back : k ≡ suc k - 1 = omega arith in ap (λ (j : ℕ). get_or xs j false) back
 
 pub same_mark : (xs : List Bool) (n : ℕ) (b : Bool) → 1 ≤ n → mark_in xs n ≡ b → set xs (n - 1) b ≡ xs
-same_mark xs n b h e = set_same xs (n - 1) b (sym (at_number xs n h) ∙ e)
-
-pub on_there : (xs : List Bool) (n : ℕ) → 1 ≤ n → n ≤ length xs → mark_in (set xs (n - 1) true) n ≡ true
-on_there xs n low high = at_number (set xs (n - 1) true) n low ∙ get_or-set_same xs (n - 1) true false (omega arith)
+same_mark xs n b h e = ap (set xs (n - 1)) (sym e ∙ at_number xs n h) ∙ set-get_or xs (n - 1) false
 
 other_mark : (xs : List Bool) (n k : ℕ) (b : Bool) → 1 ≤ n → (k ≡ n → ⊥) → mark_in (set xs (n - 1) b) k ≡ mark_in xs k
 other_mark xs n zero b low d = refl

@@ -1,40 +1,29 @@
 -- Two sides that stand for a meaning together, through each call.
-use Rattle.std.proofs.Common.{◌≡◌, ℕ, zero, suc, ◌+◌, ◌-◌, ◌≤◌, Bool, true, false, ◌||◌, leb, ◌⊎◌, List, [], ◌∷◌, ◌++◌, length, set, None, sym, refl, ap, ◌∙◌, subst, ⊎_elim, arith}
-use Rattle.std.proofs.lemmas.Bool.{or_parts, or_from, or_left, or_right, or_cases, leb-false, both_ways, cases_Bool}
+use Rattle.std.proofs.Common.{◌≡◌, ℕ, zero, suc, ◌+◌, ◌-◌, ◌≤◌, Bool, true, false, ◌||◌, ◌⊎◌, List, [], ◌∷◌, ◌++◌, length, set, sym, refl, ap, ◌∙◌, ⊎_elim}
+use Rattle.std.proofs.lemmas.Bool.{or_from, or_left, or_right, or_cases, both_ways, cases_Bool}
 use Rattle.std.proofs.lemmas.List.{length_push, length-set}
-use Rattle.cnf.specs.declared.literals.Literal.{Literal}
 use Rattle.cnf.specs.Clauses.{Clause}
-use Rattle.cnf.specs.Arranging.{beyond, twice}
 use Rattle.engine.specs.declared.answers.Answer.{Answer}
-use Rattle.engine.specs.declared.answers.Answer.TheVariants.{Conflict, Forced, Nothing}
-use Rattle.engine.specs.Meaning.{Meaning, highest, On, is_on, mark_in, with_text, with_on, with_mark, joined_by, counted, no_text, no_room, no_put, Says, answered}
-use Rattle.core_first.specs.Core.{either, Together, Bare, BackedBy, told}
-use Rattle.engine.proofs.Keeping.{unbroken, mark_within}
-use Rattle.core_first.proofs.CoreMarks.{either_set, either_push, mark_either, same_mark, on_there, left_on, new_on}
-use Rattle.core_first.proofs.CoreServes.{numbered, serves_text, serves_marks, serves_joined, serves_answered, serves_told, serves_counted, falsified_down, forces_down}
+use Rattle.engine.specs.declared.answers.Answer.TheVariants.{Conflict, Forced as ForcedBy, Nothing}
+use Rattle.engine.specs.Meaning.{Meaning, On, is_on, mark_in, with_text, with_on, with_mark, counted, Says, answered}
+use Rattle.core_first.specs.Core.{either, Serves, Together, BackedBy, told}
+use Rattle.core_first.proofs.CoreMarks.{either_set, either_push, mark_either, same_mark, left_on, new_on}
+use Rattle.core_first.proofs.CoreServes.{serves_text, serves_marks, serves_answered, serves_told, serves_counted, falsified_down, forces_down}
 
--- sides that are linked, and sides that are not
-pub linked_of : (b : Bool) (p r m : Meaning) → b ≡ true → BackedBy b p r m → Together p r m
-linked_of b p r m e h = subst (λ (x : Bool). BackedBy x p r m) e h
+-- sides that are linked
+pub backs : {b : Bool} {p r m : Meaning} → b ≡ true → Together p r m → BackedBy b p r m
+backs {b} e t = ((λ _. t), (λ f. absurd (both_ways b f e)))
 
-pub of_linked : (b : Bool) (p r m : Meaning) → b ≡ true → Together p r m → BackedBy b p r m
-of_linked b p r m e h = subst (λ (x : Bool). BackedBy x p r m) (sym e) h
+-- an answer turns no text on or off
+answered_on : (m : Meaning) (a : Answer) → (answered m a).on ≡ m.on
+answered_on m (Conflict n) = refl
+answered_on m (ForcedBy f) = refl
+answered_on m Nothing = refl
 
--- a bare meaning has no text, and takes none
-pub bare_number : (m : Meaning) → Bare m → (n : ℕ) → no_text m n ≡ false → ⊥
-bare_number m bare n t =
-    let h = numbered m n t in
-    let e = ap (λ (ts : List Clause). length ts) bare.texts in
-    omega arith
-
-pub bare_full : (m : Meaning) → Bare m → (ls : List Literal) → no_put m ls ≡ None → ⊥
-bare_full m bare ls e =
-    let a = unbroken m.opened _ _ e in
-    let b = unbroken (beyond highest ls) _ _ a.1 in
-    let c = unbroken (twice ls) _ _ b.1 in
-    let d = unbroken (no_room m (length ls)) _ _ c.1 in
-    let x = leb-false m.text_limit (length m.texts) (or_parts (leb m.text_limit (length m.texts)) _ d.0).0 in
-    omega (arith, bare.no_texts)
+told_on : (m : Meaning) (a : Answer) → (told m a).on ≡ m.on
+told_on m (Conflict n) = refl
+told_on m (ForcedBy f) = refl
+told_on m Nothing = refl
 
 module _ (p r m : Meaning) (t : Together p r m) where
   -- what is on
@@ -102,13 +91,6 @@ module _ (p r m : Meaning) (t : Together p r m) where
         ⊎_elim c.0 (λ q. t.apart k q c.1) (new_on p.on n k low a))
         (length-set p.on (n - 1) true ∙ t.even ∙ sym (length-set r.on (n - 1) false))
 
-    pub now_first : On r n → On (with_mark n true p) n
-    now_first o = on_there p.on n low (within n o t.even)
-      where
-        within : (k : ℕ) → mark_in r.on k ≡ true → length p.on ≡ length r.on → k ≤ length p.on
-        within zero q e = omega arith
-        within (suc k) q e = let h = mark_within r.on k q in omega arith
-
   pub together_text : (c : Clause) → Together (with_text c p) (with_text c r) (with_text c m)
   together_text c = record {
     preferred = serves_text p m t.preferred c;
@@ -128,28 +110,25 @@ module _ (p r m : Meaning) (t : Together p r m) where
       off_at_end : (n : ℕ) → mark_in (p.on ++ false ∷ []) n ≡ true → mark_in (r.on ++ false ∷ []) n ≡ true → ⊥
       off_at_end n a b = t.apart n (sym (push_off p.on n) ∙ a) (sym (push_off r.on n) ∙ b)
 
-  pub together_joined : (l : Literal) → Together (joined_by l 0 p) (joined_by l 0 r) (joined_by l 0 m)
-  together_joined l = record {
-    preferred = serves_joined p m t.preferred l 0 0;
-    rest = serves_joined r m t.rest l 0 0;
-    marks = t.marks;
-    apart = t.apart;
-    even = t.even;
+  -- sides that serve with the marks that they had
+  as_marked : {p' r' m' : Meaning} → Serves p' m' → Serves r' m' → p'.on ≡ p.on → r'.on ≡ r.on → m.on ≡ m'.on → Together p' r' m'
+  as_marked f h a b c = record {
+    preferred = f;
+    rest = h;
+    marks = (λ i. either (a i) (b i)) ∙ t.marks ∙ c;
+    apart = λ n x y. t.apart n (sym (ap (λ (xs : List Bool). mark_in xs n) a) ∙ x) (sym (ap (λ (xs : List Bool). mark_in xs n) b) ∙ y);
+    even = ap (λ (xs : List Bool). length xs) a ∙ t.even ∙ sym (ap (λ (xs : List Bool). length xs) b);
   }
 
   pub together_first : (a : Answer) → Together (answered p a) (told r a) (answered m a)
-  together_first (Conflict n) = record { preferred = serves_answered p m t.preferred (Conflict n); rest = serves_told r m t.rest (Conflict n); marks = t.marks; apart = t.apart; even = t.even }
-  together_first (Forced l n) = record { preferred = serves_answered p m t.preferred (Forced l n); rest = serves_told r m t.rest (Forced l n); marks = t.marks; apart = t.apart; even = t.even }
-  together_first Nothing = record { preferred = serves_answered p m t.preferred Nothing; rest = serves_told r m t.rest Nothing; marks = t.marks; apart = t.apart; even = t.even }
+  together_first a = as_marked (serves_answered p m t.preferred a) (serves_told r m t.rest a) (answered_on p a) (told_on r a) (sym (answered_on m a))
 
   pub together_second : (a : Answer) → Together (told p a) (answered r a) (answered m a)
-  together_second (Conflict n) = record { preferred = serves_told p m t.preferred (Conflict n); rest = serves_answered r m t.rest (Conflict n); marks = t.marks; apart = t.apart; even = t.even }
-  together_second (Forced l n) = record { preferred = serves_told p m t.preferred (Forced l n); rest = serves_answered r m t.rest (Forced l n); marks = t.marks; apart = t.apart; even = t.even }
-  together_second Nothing = record { preferred = serves_told p m t.preferred Nothing; rest = serves_answered r m t.rest Nothing; marks = t.marks; apart = t.apart; even = t.even }
+  together_second a = as_marked (serves_told p m t.preferred a) (serves_answered r m t.rest a) (told_on p a) (answered_on r a) (sym (answered_on m a))
 
   -- the preferred side counts an answer by itself
   pub together_counted : Together (counted p) r m
-  together_counted = record { preferred = serves_counted p m t.preferred; rest = t.rest; marks = t.marks; apart = t.apart; even = t.even }
+  together_counted = as_marked (serves_counted p m t.preferred) t.rest refl refl refl
 
   -- where neither side finds anything there is nothing
   pub nothing_both : Says p Nothing → Says r Nothing → Says m Nothing

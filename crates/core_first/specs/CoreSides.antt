@@ -1,17 +1,14 @@
 -- What the sides of a core-first engine do, and what the whole stands for.
-use Rattle.std.specs.Prelude.{◌≡◌, ℕ, true, false, None, Ok, Option, Result, ◌≢◌}
+use Rattle.std.specs.Prelude.{◌≡◌, ℕ, true, false, length, None, Ok, Option, Result}
+use Rattle.cnf.specs.Clauses.{literals}
 use Rattle.engine.specs.declared.answers.Answer.{Answer}
-use Rattle.engine.specs.declared.answers.Answer.TheVariants.{Nothing}
 use Rattle.engine.specs.declared.faults.EngineFault.{EngineFault}
+use Rattle.engine.specs.declared.limits.Room.{Room}
+use Rattle.engine.specs.declared.sessions.Session.{Session}
 use Rattle.core_first.specs.declared.Sides.{Sides}
-use Rattle.core_first.specs.declared.CoreFirst.{CoreFirst}
-use Rattle.engine.specs.Meaning.{Meaning, WellFormed, On, no_text, cleared, Says, answered, Does}
-use Rattle.engine.specs.Trails.{entries_of}
-use Rattle.core_first.specs.Core.{no_core, BackedBy, held_texts, held_marks, PreferredFirst, Whole}
-
--- both sides are as their makings and earlier calls leave them
-abbrev pub BothSound : {P R : Type 0} → (P → Type 0) → (R → Type 0) → Sides P R → Type 0
-BothSound ps rs s = ps s.preferred × rs s.rest
+use Rattle.engine.specs.Meaning.{Meaning, On, no_text, cleared, Says, answered, Does}
+use Rattle.engine.specs.Sessions.{in_session}
+use Rattle.core_first.specs.Core.{no_core, BackedBy, held, PreferredFirst}
 
 -- sides that are not linked are left alone
 abbrev pub Alone : {P R : Type 0} → (s z : Sides P R) → Type 0
@@ -26,11 +23,11 @@ module _ {P R : Type 0} (pm : P → Meaning) (rm : R → Meaning) where
   abbrev pub Backs : Sides P R → Meaning → Type 0
   Backs s m = BackedBy s.linked (pm s.preferred) (rm s.rest) m
 
-  -- both sides were cleared, if they were in no trial, and are linked
-  abbrev pub Linked : (s z : Sides P R) → Type 0
-  Linked s z =
-      (z.linked ≡ true)
-      × (no_core (pm s.preferred) (rm s.rest) ≡ None
+  -- both sides are cleared, if they are linked and in no trial
+  abbrev pub Cleared : (s z : Sides P R) → Type 0
+  Cleared s z =
+      (z.linked ≡ s.linked)
+      × (s.linked ≡ true → no_core (pm s.preferred) (rm s.rest) ≡ None
       → (pm z.preferred ≡ cleared (pm s.preferred)) × (rm z.rest ≡ cleared (rm s.rest)))
 
   -- sides that stand for a meaning which allows the call stand for what it leaves
@@ -47,42 +44,22 @@ module _ {P R : Type 0} (pm : P → Meaning) (rm : R → Meaning) where
   abbrev pub Moved : (number : ℕ) → Sides P R → Result (Unit {0}) EngineFault → Sides P R → Type 0
   Moved n s r z = r ≡ Ok tt → (m : Meaning) → m.opened ≡ false → no_text m n ≡ false → Backs s m → On (pm z.preferred) n
 
-  -- the preferred side answers for itself, for the meaning if it has an answer, and else the sides stand for it as before
-  abbrev pub AsksPreferred : Sides P R → Answer → Sides P R → Type 0
-  AsksPreferred s r z =
-      (m : Meaning) → m.opened ≡ true → Backs s m
-      → Says (pm s.preferred) r
-      × ((r ≢ Nothing) → Says m r × Backs z (answered m r))
-      × (r ≡ Nothing → Says (pm z.preferred) Nothing × Backs z m)
-
-  -- the rest answers for the meaning, where the preferred side has nothing
-  abbrev pub AsksRest : Sides P R → Answer → Sides P R → Type 0
-  AsksRest s r z =
-      (m : Meaning) → m.opened ≡ true → Backs s m → Says (pm s.preferred) Nothing → Says m r × Backs z (answered m r)
-
   -- the sides answer for the meaning, the preferred one first
   abbrev pub Answers : Sides P R → Answer → Sides P R → Type 0
   Answers s r z =
       (m : Meaning) → m.opened ≡ true → Backs s m
       → Says m r × Backs z (answered m r) × (s.linked ≡ true → PreferredFirst (pm s.preferred) r)
 
+  -- what the sides hold, in so much room, with no trial open and no answer given
+  abbrev pub at_rest : Sides P R → Room → Meaning
+  at_rest s room = held s.linked (pm s.preferred) (rm s.rest) room
+
   -- what a core-first engine stands for
-  abbrev pub core_meaning : CoreFirst P R → Meaning
-  core_meaning s = record {
-    texts = held_texts s.sides.linked (pm s.sides.preferred);
-    on = held_marks s.sides.linked (pm s.sides.preferred) (rm s.sides.rest);
-    trail = entries_of s.trail;
-    opened = s.opened;
-    answers = s.answers;
-    text_limit = s.text_limit;
-    literal_limit = s.literal_limit;
-  }
+  abbrev pub core_meaning : Sides P R → Room → Session → Meaning
+  core_meaning s room session = in_session session (at_rest s room)
 
--- a core-first engine as its making and earlier calls leave it
-pub record CoreSound {P R : Type 0} (pm : P → Meaning) (rm : R → Meaning) (ps : P → Type 0) (rs : R → Type 0) (s : CoreFirst P R) : Type 0 where
-  pub both : BothSound ps rs s.sides
-  pub whole : Whole s.sides.linked (pm s.sides.preferred) (rm s.sides.rest) (core_meaning pm rm s) s.trail s.text_count s.literal_count
-
-pub core_laws : {P R : Type 0} (pm : P → Meaning) (rm : R → Meaning) (ps : P → Type 0) (rs : R → Type 0)
-    → (s : CoreFirst P R) → CoreSound pm rm ps rs s → WellFormed (core_meaning pm rm s)
-core_laws pm rm ps rs s sound = sound.whole.well
+  -- a core-first engine that stands for m: its sides do, and its texts are counted
+  pub record Whole (s : Sides P R) (room : Room) (m : Meaning) : Type 0 where
+    pub backed : Backs s m
+    pub text_count : room.texts ≡ length m.texts
+    pub literal_count : room.literals ≡ literals m.texts

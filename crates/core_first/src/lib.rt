@@ -1,7 +1,11 @@
 //! An engine of two engines: the texts of the core are asked first.
 #![tactic(auto)]
 
-use engine::trails::Trail;
+ghost use Rattle.core_first.specs.CoreSides.{core_meaning, Whole};
+
+use engine::contract::Engine;
+use engine::limits::Room;
+use engine::sessions::Session;
 
 mod asking;
 mod both;
@@ -13,18 +17,15 @@ pub mod serving;
 struct Sides<P, R> {
     preferred: P,
     rest: R,
+    // An enum would be no plainer: both its variants would hold the same two engines.
     linked: bool,
 }
 
 /// An engine that asks what is on in the preferred side first, and the rest only when that finds nothing.
 #[derive(Drop)]
-pub struct CoreFirst<P, R> {
+pub struct CoreFirst<P: Engine, R: Engine> {
     sides: Sides<P, R>,
-    text_limit: u16,
-    literal_limit: u16,
-    text_count: u16,
-    literal_count: usize,
-    trail: Trail,
-    opened: bool,
-    answers: u32,
+    room: Room,
+    session: Session,
+    ghost whole: { Whole P.meaning R.meaning sides room (core_meaning P.meaning R.meaning sides room session) },
 }

@@ -1,21 +1,19 @@
 -- Literals that can stand on one trail: how one more joins them, and how many there can be.
-use Rattle.std.proofs.Common.{◌≡◌, ℕ, ◌+◌, ◌<◌, ◌≤◌, false, eqb, ltb, List, [], ◌∷◌, ◌++◌, length, refl, arith}
+use Rattle.std.proofs.Common.{◌≡◌, ℕ, ◌+◌, ◌<◌, ◌≤◌, false, ◌||◌, eqb, ltb, List, [], ◌∷◌, ◌++◌, length, refl, ◌∙◌, arith}
 use mathlib.Core.List.Memᴰ.{head as here}
 use mathlib.Core.List.Memᴰ.{tail as there}
-use Rattle.std.proofs.lemmas.Bool.{or_parts, or_from, ne_eqb, le-ltb}
-use Rattle.std.proofs.lemmas.List.{length-map}
+use Rattle.std.proofs.lemmas.Bool.{or_parts, or_from, ne_eqb, le-ltb, eqb-false, ltb-false}
+use Rattle.std.proofs.lemmas.List.Folds.{list_any-append}
+use Rattle.std.proofs.lemmas.List.{length-map, length_push}
 use Rattle.cnf.specs.declared.literals.Literal.{Literal}
 use Rattle.cnf.specs.Clauses.{Clause, ◌∈◌, Rising, IsClause}
 use Rattle.cnf.specs.Arranging.{outside, names, beyond, repeats, arranged}
 use Rattle.cnf.proofs.Arranging.{arranged_clause, arranged_length, clause_beyond, clause_twice}
-use Rattle.engine.specs.declared.answers.Entry.{Entry}
+use Rattle.cnf.specs.declared.literals.Forced.{Forced}
 use Rattle.engine.specs.Meaning.{highest, values_of, Consistent}
 
 beyond_push : (top : ℕ) (ls : List Literal) (l : Literal) → beyond top ls ≡ false → outside top l ≡ false → beyond top (ls ++ l ∷ []) ≡ false
-beyond_push top [] l e f = or_from (outside top l) false f refl
-beyond_push top (k ∷ ls) l e f =
-    let p = or_parts (outside top k) (beyond top ls) e in
-    or_from (outside top k) _ p.0 (beyond_push top ls l p.1 f)
+beyond_push top ls l e f = list_any-append (outside top) ls (l ∷ []) ∙ or_from _ _ e (or_from _ _ f refl)
 
 repeats_push : (before ls : List Literal) (l : Literal) → repeats before ls ≡ false → names l.variable before ≡ false
     → names l.variable ls ≡ false → repeats before (ls ++ l ∷ []) ≡ false
@@ -30,10 +28,20 @@ pub consistent_push : (ls : List Literal) (l : Literal) → Consistent ls → ou
     → Consistent (ls ++ l ∷ [])
 consistent_push ls l c f g = (beyond_push highest ls l c.0 f, repeats_push [] ls l c.1 refl g)
 
+-- the test of a number is whether it lies from 1 to the last
+pub number_in : (last n : ℕ) → 1 ≤ n → n ≤ last → (eqb n 0 || ltb last n) ≡ false
+number_in last n low high = or_from (eqb n 0) (ltb last n) (ne_eqb n 0 (λ e. omega arith)) (le-ltb last n high)
+
+pub number_is_in : (last n : ℕ) → (eqb n 0 || ltb last n) ≡ false → (1 ≤ n) × (n ≤ last)
+number_is_in last n e =
+    let p = or_parts (eqb n 0) (ltb last n) e in
+    let a = eqb-false n 0 p.0 in
+    let b = ltb-false last n p.1 in
+    (omega arith, omega arith)
+
 -- a literal within the range is not outside
 pub within_inside : (l : Literal) → 1 ≤ l.variable → l.variable ≤ highest → outside highest l ≡ false
-within_inside l low high =
-    or_from (eqb l.variable 0) (ltb highest l.variable) (ne_eqb l.variable 0 (λ e. omega arith)) (le-ltb highest l.variable high)
+within_inside l low high = number_in highest l.variable low high
 
 -- rising variables are at most as many as there are
 rising_length : (low top : ℕ) (c : Clause) → low ≤ top → Rising c → ((k : Literal) → k ∈ c → (low < k.variable) × (k.variable ≤ top))
@@ -57,17 +65,13 @@ consistent_length ls c =
     omega arith
 
 -- there is room on a trail for a literal that can join
-pub trail_room : (trail : List Entry) (l : Literal) → Consistent (values_of trail) → outside highest l ≡ false
+pub trail_room : (trail : List Forced) (l : Literal) → Consistent (values_of trail) → outside highest l ≡ false
     → names l.variable (values_of trail) ≡ false → length trail < highest
 trail_room trail l c f g =
     let h = consistent_length (values_of trail ++ l ∷ []) (consistent_push (values_of trail) l c f g) in
     let a = length_push (values_of trail) l in
-    let b = length-map trail (λ (e : Entry). e.literal) in
+    let b = length-map trail (λ (e : Forced). e.literal) in
     omega arith
-  where
-    length_push : (xs : List Literal) (y : Literal) → length (xs ++ y ∷ []) ≡ length xs + 1
-    length_push [] y = refl
-    length_push (x ∷ xs) y = let h = length_push xs y in omega arith
 
 -- the literals of a clause are consistent
 pub clause_consistent : (c : Clause) → IsClause highest c → Consistent c

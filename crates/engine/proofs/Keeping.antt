@@ -1,5 +1,5 @@
 -- What an engine stands for stays well formed by every call.
-use Rattle.std.proofs.Common.{◌≡◌, ℕ, zero, suc, ◌+◌, ◌-◌, ◌<◌, ◌≤◌, Bool, true, false, cond, not, ltb, leb, List, [], ◌∷◌, ◌++◌, length, get_or, Some, None, Ok, Err, Option, Result, sym, refl, ◌∙◌, subst, inl, inr, ⊎_elim, true≢false, arith}
+use Rattle.std.proofs.Common.{◌≡◌, ℕ, zero, suc, ◌+◌, ◌-◌, ◌<◌, ◌≤◌, Bool, true, false, cond, not, ltb, leb, List, [], ◌∷◌, ◌++◌, length, get_or, Some, None, Ok, Err, Option, Result, sym, refl, ◌∙◌, subst, inl, inr, ⊎_elim, arith}
 use mathlib.Core.Bool.{false≢true}
 use mathlib.Core.List.Memᴰ
 use mathlib.Core.List.Memᴰ.{head as here}
@@ -7,28 +7,24 @@ use mathlib.Core.List.Memᴰ.{tail as there}
 use native.Mathlib.Nat.{min-le_right}
 use Rattle.std.proofs.lemmas.Bool.{or_parts, leb-false, ltb-false, not-false, cases_lt, both_ways}
 use Rattle.std.proofs.lemmas.List.{length_push, length-set, map_push, get_or_past}
+use Rattle.std.proofs.lemmas.Option.{none-some}
 use Rattle.cnf.specs.declared.literals.Literal.{Literal}
 use Rattle.cnf.specs.Clauses.{Clause, ◌∈◌, IsClause, literals}
 use Rattle.cnf.specs.Arranging.{outside, names, beyond, twice, arranged}
 use Rattle.cnf.specs.Propagation.{Forces}
 use Rattle.cnf.proofs.Arranging.{arranged_clause, arranged_length, in_push}
 use Rattle.cnf.proofs.Derivations.{forced_new}
-use Rattle.engine.specs.declared.answers.Entry.{Entry}
+use Rattle.cnf.specs.declared.literals.Forced.{Forced}
 use Rattle.engine.specs.declared.answers.Answer.{Answer}
-use Rattle.engine.specs.declared.answers.Answer.TheVariants.{Conflict, Forced, Nothing}
+use Rattle.engine.specs.declared.answers.Answer.TheVariants.{Conflict, Forced as ForcedBy, Nothing}
 use Rattle.engine.specs.declared.faults.EngineFault.{EngineFault}
 use Rattle.engine.specs.Meaning.{Meaning, highest, most, text_of, On, values, entry, empty, cleared, with_text, with_mark, with_opened, joined_by, counted, no_room, shut, no_trial, no_put, no_on, no_off, no_assume, Says, answered, Does, Clears, Puts, TurnsOn, TurnsOff, Prefers, Opens, Assumes, Next, Ends, Consistent, WellFormed}
 use Rattle.engine.proofs.Consistent.{consistent_push, within_inside}
 
 -- a rule list that is not broken
 pub unbroken : (b : Bool) (fault : EngineFault) (rest : Option EngineFault) → cond b (Some fault) rest ≡ None → (b ≡ false) × (rest ≡ None)
-unbroken true fault rest e = let z : ◌≡◌ {A = ℕ} 0 1 = cc in absurd (omega arith)
+unbroken true fault rest e = absurd (none-some fault (sym e))
 unbroken false fault rest e = (refl, e)
-
--- and one whose first rule is not broken
-pub past_rule : (b : Bool) (fault : EngineFault) (rest : Option EngineFault) → b ≡ false → cond b (Some fault) rest ≡ rest
-past_rule true fault rest e = absurd (true≢false e)
-past_rule false fault rest e = refl
 
 -- what holds before a call, and after one that is not refused, holds after it
 pub does_keeps : {T : Type 0} (P : Meaning → Type 0) (refusal : Option EngineFault) (before after : Meaning) (r : Result T EngineFault) (m : Meaning)
@@ -36,7 +32,8 @@ pub does_keeps : {T : Type 0} (P : Meaning → Type 0) (refusal : Option EngineF
 does_keeps P refusal before after (Ok x) m p q d = subst P (sym d.1) (q d.0)
 does_keeps P refusal before after (Err e) m p q d = subst P (sym d.1) p
 
-get_or_in : {A : Type 0} (xs : List A) (k : ℕ) (d : A) → k < length xs → get_or xs k d ∈ xs
+-- an element that is there is one of the list
+pub get_or_in : {A : Type 0} (xs : List A) (k : ℕ) (d : A) → k < length xs → get_or xs k d ∈ xs
 get_or_in [] k d h = absurd (omega arith)
 get_or_in (x ∷ xs) zero d h = here refl
 get_or_in (x ∷ xs) (suc k) d h = there (get_or_in xs k d (omega arith))
@@ -139,7 +136,7 @@ module _ (m : Meaning) (well : WellFormed m) where
     marks = well.marks;
     few_texts = well.few_texts;
     few_literals = well.few_literals;
-    consistent = subst Consistent (sym (map_push (λ (e : Entry). e.literal) m.trail (entry l n))) (consistent_push (values m) l well.consistent f g);
+    consistent = subst Consistent (sym (map_push (λ (e : Forced). e.literal) m.trail (entry l n))) (consistent_push (values m) l well.consistent f g);
     at_rest = λ e. absurd (both_ways m.opened e o);
     countable = well.countable;
     small = well.small;
@@ -185,13 +182,18 @@ module _ (m : Meaning) (well : WellFormed m) where
   pub ends_well : (r : Result (Unit {0}) EngineFault) (n : Meaning) → Ends m r n → WellFormed n
   ends_well r n = does_keeps WellFormed (no_trial m) m (with_opened false m) r n well (λ e. opened_well false)
 
--- what a trial that is open finds
+-- what a call finds that needs no trial open, and one that needs one
+pub closed_trial : (m : Meaning) → shut m ≡ None → m.opened ≡ false
+closed_trial m e = (unbroken m.opened _ _ e).0
+
 pub open_trial : (m : Meaning) → no_trial m ≡ None → m.opened ≡ true
 open_trial m e = not-false m.opened (unbroken (not m.opened) _ _ e).0
 
 pub answered_well : (m : Meaning) → WellFormed m → m.opened ≡ true → (a : Answer) → Says m a → WellFormed (answered m a)
 answered_well m well o (Conflict n) s = counted_well m well
-answered_well m well o (Forced l n) s =
+answered_well m well o (ForcedBy f) s =
+    let l = f.literal in
+    let n = f.number in
     counted_well (joined_by l n m) (joined_well m well l n o (forced_inside m well n l s.0 s.1) (forced_new (values m) (text_of m n) l s.1))
 answered_well m well o Nothing s = counted_well m well
 

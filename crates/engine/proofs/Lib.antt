@@ -2,5 +2,5 @@ pub mod Consistent
 pub mod Keeping
 pub mod Looking
 pub mod Refusing
-pub mod Supposing
-pub mod Asking
+pub mod Allowed
+pub mod Parts

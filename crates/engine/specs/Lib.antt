@@ -4,4 +4,4 @@ pub mod Lowest
 pub mod Limits
 pub mod Looks
 pub mod Trails
-pub mod Trials
+pub mod Sessions

@@ -1,5 +1,6 @@
 -- What a text does under a trail, as tests that can be computed.
-use Rattle.std.specs.Prelude.{ℕ, Bool, true, false, cond, ◌&&◌, ◌||◌, List, [], ◌∷◌, take, drop, Some, None, Option}
+use Rattle.std.specs.Prelude.{ℕ, Bool, false, cond, not, ◌||◌, List, take, drop, Some, None, Option}
+use Rattle.std.specs.List.{list_any, list_all, find}
 use Rattle.cnf.specs.declared.literals.Literal.{Literal}
 use Rattle.cnf.specs.Literals.{complement, same_literal}
 use Rattle.cnf.specs.Clauses.{Clause}
@@ -9,14 +10,9 @@ use Rattle.cnf.specs.Arranging.{names}
 abbrev pub text_at : List Literal → (start length : ℕ) → Clause
 text_at places start length = take length (drop start places)
 
--- l stands in the list
-abbrev pub stands : Literal → List Literal → Bool
-stands l [] = false
-stands l (k ∷ ks) = same_literal l k || stands l ks
-
 -- l is false: its complement is on the trail
 abbrev pub is_false : (trail : List Literal) → Literal → Bool
-is_false trail l = stands (complement l) trail
+is_false trail l = list_any (same_literal (complement l)) trail
 
 -- l is the spared literal, if there is one
 abbrev pub is_spared : (spared : Option Literal) → Literal → Bool
@@ -25,8 +21,7 @@ is_spared (Some k) l = same_literal l k
 
 -- every literal but the spared one is false
 abbrev pub all_false_but : (trail : List Literal) → (spared : Option Literal) → Clause → Bool
-all_false_but trail spared [] = true
-all_false_but trail spared (l ∷ c) = (is_spared spared l || is_false trail l) && all_false_but trail spared c
+all_false_but trail spared c = list_all (λ l. is_spared spared l || is_false trail l) c
 
 -- every literal is false
 abbrev pub falsified : (trail : List Literal) → Clause → Bool
@@ -34,8 +29,7 @@ falsified trail c = all_false_but trail None c
 
 -- the first literal whose variable has no value
 abbrev pub first_open : (trail : List Literal) → Clause → Option Literal
-first_open trail [] = None
-first_open trail (l ∷ c) = cond (names l.variable trail) (first_open trail c) (Some l)
+first_open trail c = find (λ l. not (names l.variable trail)) c
 
 -- this literal, if every other literal is false
 abbrev pub if_others_false : (trail : List Literal) → Clause → Option Literal → Option Literal

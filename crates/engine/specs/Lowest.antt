@@ -2,9 +2,9 @@
 use Rattle.std.specs.Prelude.{ℕ, ◌<◌, Some, None, Option}
 use Rattle.cnf.specs.declared.literals.Literal.{Literal}
 use Rattle.cnf.specs.Propagation.{Falsified, Forces}
-use Rattle.engine.specs.declared.answers.Entry.{Entry}
+use Rattle.cnf.specs.declared.literals.Forced.{Forced}
 use Rattle.engine.specs.declared.answers.Answer.{Answer}
-use Rattle.engine.specs.declared.answers.Answer.TheVariants.{Conflict, Forced, Nothing}
+use Rattle.engine.specs.declared.answers.Answer.TheVariants.{Conflict, Forced as ForcedBy, Nothing}
 use Rattle.engine.specs.Meaning.{Meaning, On, values, text_of}
 
 -- text n is on and falsified
@@ -21,12 +21,12 @@ LowestFalse m (Some n) = FalseAt m n × ((k : ℕ) → k < n → FalseAt m k →
 LowestFalse m None = (k : ℕ) → FalseAt m k → ⊥
 
 -- the lowest number whose text is on and forces a literal, with that literal, if there is one
-abbrev pub LowestForcing : Meaning → Option Entry → Type 0
+abbrev pub LowestForcing : Meaning → Option Forced → Type 0
 LowestForcing m (Some e) = ForcesAt m e.number e.literal × ((k : ℕ) (l : Literal) → k < e.number → ForcesAt m k l → ⊥)
 LowestForcing m None = (k : ℕ) (l : Literal) → ForcesAt m k l → ⊥
 
 -- what more such an engine says
 abbrev pub SaysLowest : Meaning → Answer → Type 0
 SaysLowest m (Conflict n) = (k : ℕ) → k < n → FalseAt m k → ⊥
-SaysLowest m (Forced l n) = ((k : ℕ) → FalseAt m k → ⊥) × ((k : ℕ) (j : Literal) → k < n → ForcesAt m k j → ⊥)
+SaysLowest m (ForcedBy f) = ((k : ℕ) → FalseAt m k → ⊥) × ((k : ℕ) (l : Literal) → k < f.number → ForcesAt m k l → ⊥)
 SaysLowest m Nothing = Unit {0}

@@ -1,13 +1,13 @@
 -- What an engine stands for, and what each of its calls does to that.
 use Rattle.std.specs.Prelude.{◌≡◌, ℕ, zero, suc, ◌+◌, ◌-◌, ◌≤◌, min, Bool, true, false, cond, not, ◌||◌, List, [], ◌∷◌, ◌++◌, map, length, Some, None, Ok, Err, Option, Result, ◌==◌, nat_le, nat_lt, slice_index_or, slice_set}
 use Rattle.cnf.specs.declared.literals.Literal.{Literal}
+use Rattle.cnf.specs.declared.literals.Forced.{Forced}
 use Rattle.cnf.specs.declared.faults.ClauseFault.TheVariants.{OutOfRange, Repeated}
 use Rattle.cnf.specs.Clauses.{Clause, ◌∈◌, IsClause, literals}
 use Rattle.cnf.specs.Arranging.{outside, names, beyond, in_range_until, twice, new_until, arranged}
 use Rattle.cnf.specs.Propagation.{Falsified, Forces}
-use Rattle.engine.specs.declared.answers.Entry.{Entry}
 use Rattle.engine.specs.declared.answers.Answer.{Answer}
-use Rattle.engine.specs.declared.answers.Answer.TheVariants.{Conflict, Forced, Nothing}
+use Rattle.engine.specs.declared.answers.Answer.TheVariants.{Conflict, Forced as ForcedBy, Nothing}
 use Rattle.engine.specs.declared.faults.EngineFault.{EngineFault}
 use Rattle.engine.specs.declared.faults.EngineFault.TheVariants.{Clause as Faulty, Full, NoSuchText, AlreadyOn, NotOn, HasValue, TrialOpen, NoTrial}
 
@@ -16,7 +16,7 @@ use Rattle.engine.specs.declared.faults.EngineFault.TheVariants.{Clause as Fault
 pub record Meaning : Type 0 where
   pub texts : List Clause
   pub on : List Bool
-  pub trail : List Entry
+  pub trail : List Forced
   pub opened : Bool
   pub answers : ℕ
   pub text_limit : ℕ
@@ -50,13 +50,13 @@ abbrev pub On : Meaning → (number : ℕ) → Type 0
 On m n = is_on m n ≡ true
 
 -- the literals of a trail
-abbrev pub values_of : List Entry → List Literal
+abbrev pub values_of : List Forced → List Literal
 values_of trail = map (λ e. e.literal) trail
 
 abbrev pub values : Meaning → List Literal
 values m = values_of m.trail
 
-abbrev pub entry : Literal → (number : ℕ) → Entry
+abbrev pub entry : Literal → (number : ℕ) → Forced
 entry l n = record { literal = l; number = n }
 
 -- an engine with nothing in it
@@ -81,7 +81,7 @@ with_mark n b m = with_on (slice_set m.on (n - 1) b) m
 abbrev pub with_opened : Bool → Meaning → Meaning
 with_opened b m = record { texts = m.texts; on = m.on; trail = []; opened = b; answers = m.answers; text_limit = m.text_limit; literal_limit = m.literal_limit }
 
-abbrev pub with_trail : List Entry → Meaning → Meaning
+abbrev pub with_trail : List Forced → Meaning → Meaning
 with_trail t m = record { texts = m.texts; on = m.on; trail = t; opened = m.opened; answers = m.answers; text_limit = m.text_limit; literal_limit = m.literal_limit }
 
 -- one literal more at the end of the trail
@@ -146,7 +146,7 @@ no_assume m l =
 -- what an answer says
 abbrev pub Says : Meaning → Answer → Type 0
 Says m (Conflict n) = On m n × Falsified (values m) (text_of m n)
-Says m (Forced l n) = On m n × Forces (values m) (text_of m n) l
+Says m (ForcedBy f) = On m f.number × Forces (values m) (text_of m f.number) f.literal
 Says m Nothing =
     ((n : ℕ) → On m n → Falsified (values m) (text_of m n) → ⊥)
     × ((n : ℕ) (l : Literal) → On m n → Forces (values m) (text_of m n) l → ⊥)
@@ -154,7 +154,7 @@ Says m Nothing =
 -- what an answer leaves
 abbrev pub answered : Meaning → Answer → Meaning
 answered m (Conflict n) = counted m
-answered m (Forced l n) = counted (joined_by l n m)
+answered m (ForcedBy f) = counted (joined_by f.literal f.number m)
 answered m Nothing = counted m
 
 -- A call that is refused with the fault that `refusal` names, changing nothing, and else leaves `after`.

@@ -6,7 +6,7 @@ ghost use Rattle.engine.specs.declared.faults.EngineFault.TheVariants.{Clause};
 use cnf::faults::{ClauseFault, Layer};
 
 /// Why an engine refuses a call or its making.
-#[derive(Clone, Copy)]
+#[derive(Clone, Copy, PartialEq, Eq, Debug)]
 pub enum EngineFault {
     /// What is wrong with the literals of a call.
     Clause(ClauseFault),

@@ -8,6 +8,6 @@ pub mod contract;
 pub mod faults;
 pub mod limits;
 pub mod looks;
+pub mod sessions;
 pub mod trails;
 pub mod trials;
-pub mod tries;

@@ -1,72 +1,50 @@
-//! A table for the trail of an engine.
-ghost use Rattle.std.specs.Prelude.{◌≡◌, ◌<◌, ◌≤◌, [], ◌∷◌, ◌++◌, length};
-ghost use Rattle.engine.specs.Meaning.{entry};
-ghost use Rattle.engine.specs.Trails.{entries_of, Tidy};
+//! The trail of a trial.
+ghost use Rattle.std.specs.Prelude.{◌≡◌, ◌<◌, [], ◌∷◌, ◌++◌, length};
 
-use crate::answers::Entry;
-use cnf::literals::Literal;
+use arrayvec::ArrayVec;
+use cnf::drafts::MOST_VARIABLES;
+use cnf::literals::Forced;
 
-/// Room for as many literals as there are variables, and how many of its places are in use.
-#[derive(Clone, Copy)]
+/// A variable stands on a trail at most once.
+const PLACES: usize = MOST_VARIABLES as usize;
+
+/// Literals with the number of the text that forced each, or 0 if it was assumed: room for as many as there are variables.
+#[derive(Clone, Drop)]
 pub struct Trail {
-    entries: [Entry; 512],
-    len: usize,
+    entries: ArrayVec<Forced, PLACES>,
 }
 
 impl Trail {
+    ghost use Rattle.engine.specs.Trails.{entries_of};
+
     /// An empty trail.
     pub fn new() -> Trail
-        ensures empty { entries_of result ≡ [] }
-        ensures tidy { Tidy result }
+        ensures { entries_of result ≡ [] }
     {
-        let nobody = Literal {
-            variable: 0,
-            negated: false,
-        };
-        let blank = Entry {
-            literal: nobody,
-            number: 0,
-        };
         Trail {
-            entries: [blank; 512],
-            len: 0,
+            entries: ArrayVec::new(),
         }
     }
 
     /// Empties the trail.
     pub fn clear(&mut self)
-        ensures empty { entries_of self.new ≡ [] }
-        ensures tidy { Tidy self.new }
+        ensures { entries_of self.new ≡ [] }
     {
-        self.len = 0;
+        self.entries.clear();
     }
 
     /// What stands on the trail, oldest first.
-    pub fn entries(&self) -> &[Entry]
-        requires { Tidy self.now }
+    pub fn entries(&self) -> &[Forced]
         ensures { result.now ≡ entries_of self.now }
     {
-        &self.entries[0..self.len]
+        &self.entries
     }
 
-    /// One more entry at the end.
-    fn append(&mut self, last: Entry)
-        requires tidy { Tidy self.old }
-        requires room { length (entries_of self.old) < 512 }
-        ensures joined { entries_of self.new ≡ entries_of self.old ++ last ∷ [] }
-        ensures tidy { Tidy self.new }
+    /// One more literal at the end.
+    pub fn push(&mut self, last: Forced)
+        requires { length (entries_of self.old) < 512 }
+        ensures { entries_of self.new ≡ entries_of self.old ++ last ∷ [] }
     {
-        self.entries[self.len] = last;
-        self.len += 1;
-    }
-
-    /// One more literal at the end, with the number of the text that forced it, or 0.
-    pub fn push(&mut self, literal: Literal, number: u16)
-        requires tidy { Tidy self.old }
-        requires room { length (entries_of self.old) < 512 }
-        ensures joined { entries_of self.new ≡ entries_of self.old ++ entry literal number ∷ [] }
-        ensures tidy { Tidy self.new }
-    {
-        self.append(Entry { literal, number });
+        self.entries.push(last);
     }
 }

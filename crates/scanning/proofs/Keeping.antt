@@ -1,19 +1,26 @@
 -- The rows and places of a scanning engine: what is read there, and what is written.
-use Rattle.std.proofs.Common.{◌≡◌, ℕ, zero, suc, ◌+◌, ◌-◌, ◌<◌, ◌≤◌, Bool, false, List, [], ◌∷◌, ◌++◌, map, length, get_or, take, drop, set, sym, refl, ap, ◌∙◌, subst, ⊎_elim, add-zero, add_assoc, arith}
-use Rattle.std.proofs.lemmas.Bool.{cases_eq}
-use Rattle.std.proofs.lemmas.List.{append-nil, append_assoc, take-append-drop, length-append, length-take-le, length-drop, length-map, drop_more, take_more, take_more_set, set_at, take_at, drop_at, drop-take, take-take, get_or-map, get_or-take, get_or-set_same, get_or-set_other, map_push}
+use Rattle.std.proofs.Common.{◌≡◌, ℕ, zero, suc, ◌+◌, ◌-◌, ◌<◌, ◌≤◌, Bool, false, List, [], ◌∷◌, ◌++◌, map, length, get_or, take, drop, set, sym, refl, ap, ◌∙◌, arith}
+use mathlib.Core.Path.{subst₃}
+use Rattle.std.specs.List.{list_all}
+use Rattle.std.proofs.lemmas.Bool.{and_from}
+use Rattle.std.proofs.lemmas.Grind.{common_steps}
+use Rattle.std.proofs.lemmas.List.Folds.{list_all-append}
+use Rattle.std.proofs.lemmas.Slice.{take-put_mid_below, between-put_mid}
+use borrow.Rule.Slice.PartMut.{put_mid}
+use Rattle.std.proofs.lemmas.List.{length-append, length-take-le, length-drop, take_more_set, drop-take, take-take, get_or-map, get_or-take, map_push}
 use Rattle.cnf.specs.declared.literals.Literal.{Literal}
-use Rattle.cnf.specs.Clauses.{Clause}
-use Rattle.engine.specs.Meaning.{text_in, mark_in}
+use Rattle.cnf.specs.Clauses.{Clause, IsClause, literals}
+use Rattle.cnf.specs.Ascending.{ascending}
+use Rattle.cnf.proofs.Rising.{clause_ascending}
+use Rattle.engine.specs.Meaning.{highest, text_in, mark_in}
+use Rattle.engine.proofs.Keeping.{literals_push}
 use Rattle.engine.specs.Looks.{text_at}
 use Rattle.scanning.specs.declared.rows.TextRow.{TextRow}
-use Rattle.scanning.specs.Store.{blank_row, stored_text, texts_in, marks_in, Placed, written}
+use Rattle.scanning.specs.declared.Scanning.{Scanning}
+use Rattle.scanning.specs.Store.{blank_row, stored_text, texts_in, marks_in, Placed, AllRising}
 
 -- what stands at a number
 module _ (rows : List TextRow) (count : ℕ) (enough : count ≤ length rows) where
-  pub texts_length : (places : List Literal) → length (texts_in rows places count) ≡ count
-  texts_length places = length-map (take count rows) (stored_text places) ∙ length-take-le count rows enough
-
   pub mark_at : (n : ℕ) → 1 ≤ n → n ≤ count → mark_in (marks_in rows count) n ≡ (get_or rows (n - 1) blank_row).on
   mark_at zero low high = absurd (omega arith)
   mark_at (suc k) low high =
@@ -51,33 +58,7 @@ marks_marked (suc n) (suc i) (r ∷ rows) d b = ap (λ (x : List Bool). r.on ∷
 
 pub placed_marked : (rows : List TextRow) (count used i : ℕ) (b : Bool) → i < length rows → Placed rows count used
     → Placed (set rows i (marked (get_or rows i blank_row) b)) count used
-placed_marked rows count used i b h p k l =
-    ⊎_elim
-    (λ (e : k ≡ i). subst (λ (r : TextRow). r.start + r.length ≤ used) (sym (ap (λ (j : ℕ). get_or (set rows i (marked (get_or rows i blank_row) b)) j blank_row) e ∙ get_or-set_same rows i (marked (get_or rows i blank_row) b) blank_row h)) (subst (λ (j : ℕ). (get_or rows j blank_row).start + (get_or rows j blank_row).length ≤ used) e (p k l)))
-    (λ (d : k ≡ i → ⊥). subst (λ (r : TextRow). r.start + r.length ≤ used) (sym (get_or-set_other rows i k (marked (get_or rows i blank_row) b) blank_row d)) (p k l))
-    (cases_eq k i)
-
--- a text that is written one literal after another
-module _ {X : Type 0} (xs ts : List X) (n : ℕ) where
-  pub write_none : (take n xs ++ []) ++ drop (n + 0) xs ≡ xs
-  write_none = ap (λ ys. ys ++ drop (n + 0) xs) (append-nil (take n xs)) ∙ ap (λ k. take n xs ++ drop k xs) (add-zero n) ∙ take-append-drop n xs
-
-  pub write_more : (i : ℕ) (d : X) → n + length ts ≤ length xs → i < length ts
-      → set ((take n xs ++ take i ts) ++ drop (n + length (take i ts)) xs) (n + i) (get_or ts i d)
-      ≡ (take n xs ++ take (i + 1) ts) ++ drop (n + length (take (i + 1) ts)) xs
-  write_more i d h l =
-      let a = length-take-le i ts (omega arith) in
-      let b = length-take-le (i + 1) ts (omega arith) in
-      let e = length-take-le n xs (omega arith) in
-      let p = take n xs ++ take i ts in
-      let k : length p ≡ n + i = length-append (take n xs) (take i ts) ∙ (omega arith) in
-      ap (λ j. set (p ++ drop (n + j) xs) (n + i) (get_or ts i d)) a
-      ∙ ap (λ ys. set (p ++ ys) (n + i) (get_or ts i d)) (drop_more xs (n + i) d (omega arith))
-      ∙ set_at p (get_or xs (n + i) d) (drop (n + i + 1) xs) (get_or ts i d) (n + i) k
-      ∙ sym (append_assoc p (get_or ts i d ∷ []) (drop (n + i + 1) xs))
-      ∙ ap (λ ys. ys ++ drop (n + i + 1) xs) (append_assoc (take n xs) (take i ts) (get_or ts i d ∷ []))
-      ∙ ap (λ ys. (take n xs ++ ys) ++ drop (n + i + 1) xs) (sym (take_more ts i d l))
-      ∙ ap (λ j. (take n xs ++ take (i + 1) ts) ++ drop j xs) (add_assoc n i 1 ∙ ap (λ j. n + j) (sym b))
+placed_marked rows count used i b h p k l = let q = p k l in grind (arith, common_steps, q)
 
 -- a text that lies within a front is read off the front
 part_same : {X : Type 0} (xs ys : List X) (s n e : ℕ) → take e xs ≡ take e ys → s + n ≤ e → take n (drop s xs) ≡ take n (drop s ys)
@@ -93,49 +74,99 @@ texts_same (r ∷ rows) ps qs (suc n) used p e =
     let rest = texts_same rows ps qs n used (λ k h. p (suc k) (omega arith)) e in
     λ i. head i ∷ rest i
 
--- a text that is stored behind the others
-module _ (rows : List TextRow) (places : List Literal) (count used : ℕ) (text : List Literal) where
+-- the rows, with the place of a text that lies behind the others
+module _ (rows : List TextRow) (places after : List Literal) (count used : ℕ) (text : List Literal)
+    (placed : Placed rows count used) (front : take used after ≡ take used places)
+    (added : text_at after used (length text) ≡ text) (room : count < length rows) where
   abbrev pub new_row : TextRow
   new_row = record { start = used; length = length text; on = false }
 
-  module _ (placed : Placed rows count used) (fits : used + length text ≤ length places) (room : count < length rows) where
-    front : length (take used places) ≡ used
-    front = length-take-le used places (omega arith)
+  pub texts_stored : texts_in (set rows count new_row) after (count + 1) ≡ texts_in rows places count ++ text ∷ []
+  texts_stored =
+      ap (map (stored_text after)) (take_more_set rows count new_row room)
+      ∙ map_push (stored_text after) (take count rows) new_row
+      ∙ ap (λ (t : Clause). texts_in rows after count ++ t ∷ []) added
+      ∙ ap (λ (ts : List Clause). ts ++ text ∷ []) (texts_same rows after places count used placed front)
 
-    kept : take used (written places used text) ≡ take used places
-    kept =
-        ap (take used) (append_assoc (take used places) text (drop (used + length text) places))
-        ∙ take_at (take used places) (text ++ drop (used + length text) places) used front
+  pub marks_stored : marks_in (set rows count new_row) (count + 1) ≡ marks_in rows count ++ false ∷ []
+  marks_stored =
+      ap (map (λ (r : TextRow). r.on)) (take_more_set rows count new_row room)
+      ∙ map_push (λ (r : TextRow). r.on) (take count rows) new_row
 
-    added : text_at (written places used text) used (length text) ≡ text
-    added =
-        ap (λ xs. take (length text) (drop used xs)) (append_assoc (take used places) text (drop (used + length text) places))
-        ∙ ap (take (length text)) (drop_at (take used places) (text ++ drop (used + length text) places) used front)
-        ∙ take_at text (drop (used + length text) places) (length text) refl
+  pub placed_stored : Placed (set rows count new_row) (count + 1) (used + length text)
+  placed_stored k l = grind (arith, common_steps, placed)
 
-    pub written_length : length (written places used text) ≡ length places
-    written_length =
-        let a = length-append (take used places ++ text) (drop (used + length text) places) in
-        let b = length-append (take used places) text in
-        let d = length-drop (used + length text) places in
-        let e = front in
-        omega arith
+-- the rows and places of an engine with one text more, which is off
+pub record OneMore (s : Scanning) (text : Clause) (rows : List TextRow) (places : List Literal) (count used : ℕ) : Type 0 where
+  pub texts : texts_in rows places count ≡ texts_in s.rows.now s.places.now s.room.texts ++ text ∷ []
+  pub marks : marks_in rows count ≡ marks_in s.rows.now s.room.texts ++ false ∷ []
+  pub placed : Placed rows count used
+  pub counted : literals (texts_in rows places count) ≡ used
+  pub rising : AllRising (texts_in rows places count)
 
-    pub texts_stored : texts_in (set rows count new_row) (written places used text) (count + 1) ≡ texts_in rows places count ++ text ∷ []
-    texts_stored =
-        ap (map (stored_text (written places used text))) (take_more_set rows count new_row room)
-        ∙ map_push (stored_text (written places used text)) (take count rows) new_row
-        ∙ ap (λ (t : Clause). texts_in rows (written places used text) count ++ t ∷ []) added
-        ∙ ap (λ (ts : List Clause). ts ++ text ∷ []) (texts_same rows (written places used text) places count used placed kept)
+-- a text that was copied behind the literals in use
+module _ (s : Scanning) (text copied : List Literal) (start : ℕ) (is : copied ≡ text) (es : start ≡ s.room.literals)
+    (fits : s.room.literals + length text ≤ s.room.limits.literals) where
+  abbrev pub after : List Literal
+  after = put_mid start (start + length text - start) s.places.now copied
 
-    pub marks_stored : marks_in (set rows count new_row) (count + 1) ≡ marks_in rows count ++ false ∷ []
-    marks_stored =
-        ap (map (λ (r : TextRow). r.on)) (take_more_set rows count new_row room)
-        ∙ map_push (λ (r : TextRow). r.on) (take count rows) new_row
+  long : length copied ≡ start + length text - start
+  long = ap length is ∙ (omega arith)
 
-    pub placed_stored : Placed (set rows count new_row) (count + 1) (used + length text)
-    placed_stored k l =
-        ⊎_elim
-        (λ (e : k ≡ count). subst (λ (r : TextRow). r.start + r.length ≤ used + length text) (sym (ap (λ (j : ℕ). get_or (set rows count new_row) j blank_row) e ∙ get_or-set_same rows count new_row blank_row room)) (omega arith))
-        (λ (d : k ≡ count → ⊥). let low = placed k (omega arith) in subst (λ (r : TextRow). r.start + r.length ≤ used + length text) (sym (get_or-set_other rows count k new_row blank_row d)) (omega arith))
-        (cases_eq k count)
+  within : start + length text ≤ length s.places.now
+  within = omega (arith, s.served)
+
+  front : take s.room.literals after ≡ take s.room.literals s.places.now
+  front = take-put_mid_below start (start + length text - start) s.places.now copied s.room.literals (omega arith) (omega (arith, within))
+
+  added : text_at after s.room.literals (length text) ≡ text
+  added =
+      let e : length text ≡ start + length text - start = omega arith in
+      (λ i. take (e i) (drop (sym es i) after))
+      ∙ between-put_mid start (start + length text - start) s.places.now copied (start + length text) (omega (arith, within)) long
+      ∙ is
+
+  pub places_kept : length after ≡ length s.places.now
+  places_kept =
+      let k = start + length text - start in
+      let a = length-append (take start s.places.now) (copied ++ drop k (drop start s.places.now)) in
+      let b = length-append copied (drop k (drop start s.places.now)) in
+      let d = length-drop k (drop start s.places.now) in
+      let e = length-drop start s.places.now in
+      let f = length-take-le start s.places.now (omega (arith, within)) in
+      omega (arith, long, within)
+
+  pub texts_kept : texts_in s.rows.now after s.room.texts ≡ texts_in s.rows.now s.places.now s.room.texts
+  texts_kept = texts_same s.rows.now after s.places.now s.room.texts s.room.literals s.placed front
+
+  -- with its row, one text more counts
+  module _ (room : s.room.texts < s.room.limits.texts) (clause : IsClause highest text) (at count used : ℕ) (ea : at ≡ s.room.texts)
+      (ec : count ≡ s.room.texts + 1) (eu : used ≡ s.room.literals + length text) where
+    abbrev rows_after : List TextRow
+    rows_after = set s.rows.now at (record { start = start; length = length text; on = false })
+
+    below : s.room.texts < length s.rows.now
+    below = omega (arith, s.served)
+
+    texts_after : texts_in rows_after after count ≡ texts_in s.rows.now s.places.now s.room.texts ++ text ∷ []
+    texts_after =
+        (λ i. texts_in (set s.rows.now (ea i) (record { start = es i; length = length text; on = false })) after (ec i))
+        ∙ texts_stored s.rows.now s.places.now after s.room.texts s.room.literals text s.placed front added below
+
+    pub one_more : OneMore s text rows_after after count used
+    one_more = record {
+      texts = texts_after;
+      marks = (λ i. marks_in (set s.rows.now (ea i) (record { start = es i; length = length text; on = false })) (ec i))
+          ∙ marks_stored s.rows.now s.places.now after s.room.texts s.room.literals text s.placed front added below;
+      placed =
+          subst₃ (λ (rs : List TextRow) (k u : ℕ). Placed rs k u)
+          (λ i. set s.rows.now (sym ea i) (record { start = sym es i; length = length text; on = false })) (sym ec) (sym eu)
+          (placed_stored s.rows.now s.places.now after s.room.texts s.room.literals text s.placed front added below);
+      counted =
+          ap literals texts_after ∙ literals_push (texts_in s.rows.now s.places.now s.room.texts) text
+          ∙ ap (λ (n : ℕ). n + length text) s.counted ∙ sym eu;
+      rising =
+          ap (list_all (ascending 0 highest)) texts_after
+          ∙ list_all-append (ascending 0 highest) (texts_in s.rows.now s.places.now s.room.texts) (text ∷ [])
+          ∙ and_from _ _ s.rising (and_from _ _ (clause_ascending highest text clause) refl);
+    }

@@ -2,9 +2,14 @@
 //! forcing one.
 #![tactic(auto)]
 
+ghost use Rattle.std.specs.Prelude.{◌≡◌};
+ghost use Rattle.cnf.specs.Clauses.{literals};
+ghost use Rattle.scanning.specs.Store.{texts_in, Small, Served, AllRising, Placed};
+
 use crate::rows::TextRow;
 use cnf::literals::Literal;
-use engine::trails::Trail;
+use engine::limits::Room;
+use engine::sessions::Session;
 
 pub mod making;
 pub mod rows;
@@ -18,11 +23,11 @@ pub mod storing;
 pub struct Scanning<'a> {
     rows: &'a mut [TextRow],
     places: &'a mut [Literal],
-    text_limit: u16,
-    literal_limit: u16,
-    text_count: u16,
-    literal_count: usize,
-    trail: Trail,
-    opened: bool,
-    answers: u32,
+    room: Room,
+    session: Session,
+    ghost small: { Small room.limits },
+    ghost served: { Served room.limits rows.now places.now },
+    ghost placed: { Placed rows.now room.texts room.literals },
+    ghost counted: { literals (texts_in rows.now places.now room.texts) ≡ room.literals },
+    ghost rising: { AllRising (texts_in rows.now places.now room.texts) },
 }

@@ -1,78 +1,63 @@
 //! How a scanning engine finds an answer.
-ghost use Rattle.std.specs.Prelude.{◌≡◌, ◌≤◌, true, ◌&&◌, if◌then◌else◌, None};
-ghost use Rattle.engine.specs.Meaning.{Says, is_on, values, text_of, counted, answered};
-ghost use Rattle.engine.specs.Looks.{falsified, forced};
-ghost use Rattle.engine.specs.Lowest.{LowestFalse, LowestForcing, SaysLowest};
-ghost use Rattle.scanning.specs.Store.{scan_meaning, ScanSound, Shaped};
+ghost use Rattle.std.specs.Prelude.{◌≡◌, false, MatchBool, MatchOption};
+ghost use Rattle.cnf.specs.declared.literals.Literal.{Literal};
+ghost use Rattle.engine.specs.Meaning.{Says, is_on, On, text_of};
+ghost use Rattle.engine.specs.Lowest.{FalseAt, ForcesAt, LowestFalse, LowestForcing, SaysLowest};
+ghost use Rattle.scanning.specs.Seen.{scan_meaning};
 
 use crate::Scanning;
-use cnf::literals::Literal;
-use engine::answers::{Answer, Entry};
+use cnf::literals::{Forced, Literal};
+use engine::answers::Answer;
 use engine::looks::{forced_by, is_falsified, text_at};
 
 impl<'a> Scanning<'a> {
+    /// The text with this number, if it is on.
+    fn text_on(&self, number: u16) -> Option<&[Literal]>
+        ensures { MatchOption result (is_on (scan_meaning self.now) number ≡ false) (λ text. On (scan_meaning self.now) number × (text.now ≡ text_of (scan_meaning self.now) number)) }
+    {
+        let place = self.room.place(number).ok()?;
+        let row = self.rows[place];
+        if !row.on {
+            return None;
+        }
+        Some(text_at(self.places, row.start, row.length))
+    }
+
     /// Whether a text is on and falsified.
     fn is_false_at(&self, number: u16) -> bool
-        requires sound { ScanSound self.now }
-        requires number { (1 ≤ number) × (number ≤ self.now.text_count) }
-        ensures { result ≡ (is_on (scan_meaning self.now) number && falsified (values (scan_meaning self.now)) (text_of (scan_meaning self.now) number)) }
+        ensures { MatchBool result (FalseAt (scan_meaning self.now) number) (FalseAt (scan_meaning self.now) number → ⊥) }
     {
-        let row = self.rows[number as usize - 1];
-        row.on
-            && is_falsified(
-                self.trail.entries(),
-                text_at(self.places, row.start, row.length),
-            )
+        match self.text_on(number) {
+            Some(text) => is_falsified(self.session.entries(), text),
+            None => false,
+        }
     }
 
     /// The literal that a text forces, if it is on.
-    fn forced_at(&self, number: u16) -> Option<Literal>
-        requires sound { ScanSound self.now }
-        requires number { (1 ≤ number) × (number ≤ self.now.text_count) }
-        ensures { result ≡ (if is_on (scan_meaning self.now) number then forced (values (scan_meaning self.now)) (text_of (scan_meaning self.now) number) else None) }
+    fn forced_at(&self, number: u16) -> Option<Forced>
+        ensures { MatchOption result ((l : Literal) → ForcesAt (scan_meaning self.now) number l → ⊥) (λ f. (f.number ≡ number) × ForcesAt (scan_meaning self.now) number f.literal) }
     {
-        let row = self.rows[number as usize - 1];
-        if row.on {
-            forced_by(
-                self.trail.entries(),
-                text_at(self.places, row.start, row.length),
-            )
-        } else {
-            None
-        }
+        let text = self.text_on(number)?;
+        let literal = forced_by(self.session.entries(), text)?;
+        Some(Forced { literal, number })
     }
 
     /// The lowest number whose text is on and falsified.
     fn lowest_false(&self) -> Option<u16>
-        requires { ScanSound self.now }
         ensures { LowestFalse (scan_meaning self.now) result }
     {
-        for i in 0..self.text_count {
-            let number = i + 1;
-            if self.is_false_at(number) {
-                return Some(number);
-            }
-        }
-        None
+        (1..=self.room.texts()).find(|number| self.is_false_at(*number))
     }
 
     /// The lowest number whose text is on and forces a literal, with that literal.
-    fn lowest_forcing(&self) -> Option<Entry>
-        requires { ScanSound self.now }
+    fn lowest_forcing(&self) -> Option<Forced>
         ensures { LowestForcing (scan_meaning self.now) result }
     {
-        for i in 0..self.text_count {
-            let number = i + 1;
-            if let Some(literal) = self.forced_at(number) {
-                return Some(Entry { literal, number });
-            }
-        }
-        None
+        (1..=self.room.texts()).find_map(|number| self.forced_at(number))
     }
 
     /// The lowest falsified number, else the lowest forcing one.
-    fn find(&self) -> Answer
-        requires { ScanSound self.now }
+    pub(crate) fn find(&self) -> Answer
         ensures says { Says (scan_meaning self.now) result }
         ensures lowest { SaysLowest (scan_meaning self.now) result }
     {
@@ -80,34 +65,8 @@ impl<'a> Scanning<'a> {
             return Answer::Conflict(number);
         }
         match self.lowest_forcing() {
-            Some(Entry { literal, number }) => Answer::Forced { literal, number },
+            Some(forced) => Answer::Forced(forced),
             None => Answer::Nothing,
         }
-    }
-
-    /// Counts an answer.
-    fn count(&mut self)
-        requires { Shaped self.old }
-        ensures means { scan_meaning self.new ≡ counted (scan_meaning self.old) }
-        ensures shaped { Shaped self.new }
-    {
-        self.answers = self.answers.saturating_add(1);
-    }
-
-    /// Answers in an open trial, and counts the answer. A literal that is forced joins the trail.
-    pub(crate) fn answer(&mut self) -> Answer
-        requires sound { ScanSound self.old }
-        requires open { self.old.opened ≡ true }
-        ensures says { Says (scan_meaning self.old) result }
-        ensures lowest { SaysLowest (scan_meaning self.old) result }
-        ensures means { scan_meaning self.new ≡ answered (scan_meaning self.old) result }
-        ensures stays { ScanSound self.new }
-    {
-        let answer = self.find();
-        self.count();
-        if let Answer::Forced { literal, number } = answer {
-            self.trail.push(literal, number);
-        }
-        answer
     }
 }

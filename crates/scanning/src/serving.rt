@@ -1,133 +1,95 @@
 //! The scanning engine as an engine.
 ghost use Rattle.engine.specs.Lowest.{SaysLowest};
-ghost use Rattle.scanning.specs.Store.{scan_meaning, ScanSound, scan_laws};
+ghost use Rattle.scanning.specs.Seen.{scan_meaning};
+ghost use Rattle.scanning.specs.Laws.{scan_laws};
 
 use crate::Scanning;
 use cnf::drafts::MOST_VARIABLES;
-use cnf::faults::ClauseFault;
+use cnf::drafts::arranging::arrange;
 use cnf::literals::Literal;
 use engine::answers::Answer;
 use engine::contract::Engine;
 use engine::faults::EngineFault;
-use engine::looks::has_value;
 use engine::trials::{Key, Trial};
 
 /// It promises more than an engine must: the lowest number.
 impl<'a> Engine for Scanning<'a> {
     ghost meaning = { scan_meaning };
 
-    ghost sound = { ScanSound };
-
     ghost picks = { SaysLowest };
 
     ghost laws = { scan_laws };
 
     fn is_open(&self) -> bool {
-        self.opened
+        self.session.is_open()
     }
 
     fn answers(&self) -> u32 {
-        self.answers
+        self.session.answers()
     }
 
     fn text_limit(&self) -> u16 {
-        self.text_limit
+        self.room.limits().texts
     }
 
     fn literal_limit(&self) -> u16 {
-        self.literal_limit
+        self.room.limits().literals
     }
 
     fn clear(&mut self) -> Result<(), EngineFault> {
-        if self.opened {
-            return Err(EngineFault::TrialOpen);
-        }
-        self.wipe();
+        self.session.shut()?;
+        self.room.clear();
+        self.session.restart();
         Ok(())
     }
 
     fn put(&mut self, literals: &[Literal]) -> Result<(), EngineFault> {
-        if self.opened {
-            return Err(EngineFault::TrialOpen);
+        self.session.shut()?;
+        let draft = arrange(MOST_VARIABLES, literals);
+        let text = draft.clause()?;
+        if !self.room.has(text.len()) {
+            return Err(EngineFault::Full);
         }
-        self.add(literals)
+        self.store(text);
+        Ok(())
     }
 
     fn on(&mut self, number: u16) -> Result<(), EngineFault> {
-        if self.opened {
-            return Err(EngineFault::TrialOpen);
+        let place = self.place(number)?;
+        if self.rows[place].on {
+            return Err(EngineFault::AlreadyOn);
         }
-        match self.mark(number) {
-            None => Err(EngineFault::NoSuchText),
-            Some(true) => Err(EngineFault::AlreadyOn),
-            Some(false) => {
-                self.set_mark(number, true);
-                Ok(())
-            }
-        }
+        self.set_mark(place, true);
+        Ok(())
     }
 
     fn off(&mut self, number: u16) -> Result<(), EngineFault> {
-        if self.opened {
-            return Err(EngineFault::TrialOpen);
-        }
-        match self.mark(number) {
-            None => Err(EngineFault::NoSuchText),
-            Some(false) => Err(EngineFault::NotOn),
-            Some(true) => {
-                self.set_mark(number, false);
-                Ok(())
-            }
-        }
+        let place = self.place_on(number)?;
+        self.set_mark(place, false);
+        Ok(())
     }
 
     fn prefer(&mut self, number: u16) -> Result<(), EngineFault> {
-        if self.opened {
-            return Err(EngineFault::TrialOpen);
-        }
-        match self.mark(number) {
-            None => Err(EngineFault::NoSuchText),
-            Some(false) => Err(EngineFault::NotOn),
-            Some(true) => Ok(()),
-        }
+        self.place_on(number)?;
+        Ok(())
     }
 
     fn begin(&mut self, _key: &Key) -> Result<(), EngineFault> {
-        if self.opened {
-            return Err(EngineFault::TrialOpen);
-        }
-        self.opened = true;
-        self.trail.clear();
-        Ok(())
+        self.session.begin()
     }
 
     fn assume(&mut self, _trial: &Trial, literal: Literal) -> Result<(), EngineFault> {
-        if !self.opened {
-            return Err(EngineFault::NoTrial);
-        }
-        if literal.variable == 0 || literal.variable > MOST_VARIABLES {
-            return Err(EngineFault::Clause(ClauseFault::OutOfRange { place: 0 }));
-        }
-        if has_value(self.trail.entries(), literal) {
-            return Err(EngineFault::HasValue);
-        }
-        self.trail.push(literal, 0);
-        Ok(())
+        self.session.assume(literal)
     }
 
     fn next(&mut self, _trial: &Trial) -> Result<Answer, EngineFault> {
-        if !self.opened {
-            return Err(EngineFault::NoTrial);
-        }
-        Ok(self.answer())
+        self.session.opened()?;
+        let answer = self.find();
+        self.session.note(answer);
+        Ok(answer)
     }
 
     fn finish(&mut self, _key: &Key) -> Result<(), EngineFault> {
-        if !self.opened {
-            return Err(EngineFault::NoTrial);
-        }
-        self.opened = false;
-        self.trail.clear();
-        Ok(())
+        self.session.finish()
     }
 }

@@ -1,24 +1,17 @@
-use Rattle.core_first.proofs.CoreCalls.{prefer_in_rest, prefer_in_first, preferred_on}
+use Rattle.core_first.proofs.CoreTogether.{backs}
+use Rattle.core_first.proofs.CoreCalls.{prefer_in_rest, prefer_in_first}
 use Rattle.core_first.proofs.Sides.prefer.Goals as goal
 
-pub returns-in-Ok : goal.returns-in-Ok
-returns-in-Ok g c =
+pub returns-in-Ok-clause-turns : goal.returns-in-Ok-clause-turns
+returns-in-Ok-clause-turns g c m o t b =
     let s = c.args.self.now in
-    let p = g.P.Engine.meaning s.preferred in
-    let r = g.R.Engine.meaning s.rest in
-    record {
-      turns = λ m o t b. (prefer_in_rest m c.args.number o t s.linked p r _ _ tt c.on.result c.in-Ok.ensures.does c.on.ensures.does b).0;
-      moved = λ e m o t b. (prefer_in_rest m c.args.number o t s.linked p r _ _ tt c.on.result c.in-Ok.ensures.does c.on.ensures.does b).1;
-      stays = (c.on.ensures.stays, c.off.ensures.stays);
-    }
+    let linked = c.requires.linked in
+    let q = prefer_in_rest (g.P.Engine.meaning s.preferred) (g.R.Engine.meaning s.rest) m (b.0 linked) c.args.number o t _ _ c.on.result c.in-Ok.ensures.does c.on.ensures.does in
+    (q.0, q.1, backs linked q.2)
 
-pub returns-in-Err : goal.returns-in-Err
-returns-in-Err g c =
+pub returns-in-Err-clause-turns : goal.returns-in-Err-clause-turns
+returns-in-Err-clause-turns g c m o t b =
     let s = c.args.self.now in
-    let p = g.P.Engine.meaning s.preferred in
-    let r = g.R.Engine.meaning s.rest in
-    record {
-      turns = λ m o t b. prefer_in_first m c.args.number o t s.linked p r _ _ _ c.prefer.result c.in-Err.ensures.does c.prefer.ensures.does b;
-      moved = λ e m o t b. preferred_on m c.args.number o t s.linked p r _ c.prefer.result c.prefer.ensures.does e b;
-      stays = (c.prefer.ensures.stays, c.off.ensures.stays);
-    }
+    let linked = c.requires.linked in
+    let q = prefer_in_first (g.P.Engine.meaning s.preferred) (g.R.Engine.meaning s.rest) m (b.0 linked) c.args.number o t _ _ _ c.prefer.result c.in-Err.ensures.does c.prefer.ensures.does in
+    (q.0, q.1, backs linked q.2)

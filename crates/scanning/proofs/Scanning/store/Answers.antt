@@ -1,47 +1,55 @@
-use Rattle.std.proofs.Common.{ℕ, ◌+◌, ◌<◌, ◌≤◌, false, List, length, set, sym, ap, ◌∙◌, subst, arith}
-use mathlib.Core.Path.{subst₃}
+use Rattle.std.proofs.Common.{false, length, refl, ap, ◌∙◌, arith}
 use Rattle.std.proofs.lemmas.List.{length-set}
 use Rattle.cnf.specs.Clauses.{literals}
-use Rattle.engine.specs.Trails.{entries_of, Tidy}
 use Rattle.engine.proofs.Refusing.{alike}
-use Rattle.engine.proofs.Keeping.{literals_push}
-use Rattle.scanning.specs.declared.rows.TextRow.{TextRow}
-use Rattle.scanning.specs.Store.{texts_in, marks_in, Placed}
-use Rattle.scanning.proofs.Keeping.{written_length, texts_stored, marks_stored, placed_stored}
+use Rattle.std.specs.List.{list_all}
+use Rattle.cnf.specs.Ascending.{ascending}
+use Rattle.engine.specs.declared.limits.Limits.{Limits}
+use Rattle.engine.specs.Meaning.{highest}
+use Rattle.scanning.proofs.Keeping.{places_kept, texts_kept, one_more}
 use Rattle.scanning.proofs.Scanning.store.Goals as goal
+
+pub invariant_of-self : goal.invariant_of-self
+invariant_of-self c =
+    let s = c.args.self.now in
+    let start = c.literals-start.ensures in
+    let kept = texts_kept s c.args.text.now c.copy_from_slice.new.self c.literals-start.result c.copy_from_slice.ensures.after start c.requires.room.1 in
+    let long = places_kept s c.args.text.now c.copy_from_slice.new.self c.literals-start.result c.copy_from_slice.ensures.after start c.requires.room.1 in
+    record {
+      small = s.small;
+      served = (s.served.0, omega (arith, s.served, long));
+      placed = s.placed;
+      counted = ap literals kept ∙ s.counted;
+      rising = ap (list_all (ascending 0 highest)) kept ∙ s.rising;
+    }
+
+pub invariant_of-self-2 : goal.invariant_of-self-2
+invariant_of-self-2 c =
+    let s = c.args.self.now in
+    let text = c.args.text.now in
+    let is = c.copy_from_slice.ensures.after in
+    let start = c.literals-start.ensures in
+    let texts = ap (λ (l : Limits). l.texts) c.take.ensures.limits in
+    let literals = ap (λ (l : Limits). l.literals) c.take.ensures.limits in
+    let more = c.take.ensures.more in
+    let long = places_kept s text c.copy_from_slice.new.self c.literals-start.result is start c.requires.room.1 in
+    let many = length-set s.rows.now c.from.result (record { start = c.literals-start.result; length = length text; on = false }) in
+    let one =
+    one_more s text c.copy_from_slice.new.self c.literals-start.result is start c.requires.room.1 c.requires.room.0 c.requires.clause
+    c.from.result _ _ (c.from.ensures ∙ c.texts.ensures) more.0 more.1 in
+    record {
+      small = (omega (arith, s.small, texts), omega (arith, s.small, literals));
+      served = (omega (arith, s.served, many, texts), omega (arith, s.served, long, literals));
+      placed = one.placed;
+      counted = one.counted;
+      rising = one.rising;
+    }
 
 pub returns : goal.returns
 returns c =
     let s = c.args.self.now in
-    let z = c.copy.new.self in
-    let f = c.copy.ensures in
-    let text = c.args.text.now in
-    let shape = c.requires.sound.shape in
-    let rows = s.rows.now in
-    let places = s.places.now in
-    let count = s.text_count in
-    let used = s.literal_count in
-    let fits : used + length text ≤ length places = omega (arith, c.requires.room.1, shape.enough_places) in
-    let room : count < length rows = omega (arith, c.requires.room.0, shape.enough_rows) in
-    let texts = (λ i. texts_in (set (f.rows i) (f.text_count i) (record { start = f.literal_count i; length = length text; on = false })) (f.places i) (f.text_count i + 1))
-    ∙ texts_stored rows places count used text shape.placed fits room in
-    let marks = (λ i. marks_in (set (f.rows i) (f.text_count i) (record { start = f.literal_count i; length = length text; on = false })) (f.text_count i + 1))
-    ∙ marks_stored rows places count used text shape.placed fits room in
-    let long = ap length f.rows in
-    let many = ap length f.places ∙ written_length rows places count used text shape.placed fits room in
-    let more = length-set z.rows.now z.text_count (record { start = z.literal_count; length = length text; on = false }) in
-    record {
-      means = alike texts marks (ap entries_of f.trail) f.opened f.answers f.text_limit f.literal_limit;
-      shaped = record {
-        enough_rows = omega (arith, shape.enough_rows, f.text_limit);
-        enough_places = omega (arith, shape.enough_places, f.literal_limit);
-        few_rows = omega (arith, c.requires.room.0, f.text_limit, f.text_count);
-        few_places = omega (arith, c.requires.room.1, f.literal_limit, f.literal_count);
-        stored = ap literals texts ∙ literals_push (texts_in rows places count) text ∙ (λ i. shape.stored i + length text) ∙ sym (λ i. f.literal_count i + length text);
-        placed =
-            subst₃ (λ (rs : List TextRow) (k u : ℕ). Placed (set rs k (record { start = u; length = length text; on = false })) (k + 1) (u + length text))
-            (sym f.rows) (sym f.text_count) (sym f.literal_count)
-            (placed_stored rows places count used text shape.placed fits room);
-        tidy = subst Tidy (sym f.trail) shape.tidy;
-      };
-    }
+    let more = c.take.ensures.more in
+    let one =
+    one_more s c.args.text.now c.copy_from_slice.new.self c.literals-start.result c.copy_from_slice.ensures.after (c.literals-start.ensures)
+    c.requires.room.1 c.requires.room.0 c.requires.clause c.from.result _ _ (c.from.ensures ∙ c.texts.ensures) more.0 more.1 in
+    alike one.texts one.marks refl refl refl (ap (λ (l : Limits). l.texts) c.take.ensures.limits) (ap (λ (l : Limits). l.literals) c.take.ensures.limits)

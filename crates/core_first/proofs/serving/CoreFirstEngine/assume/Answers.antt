@@ -1,39 +1,31 @@
-use Rattle.std.proofs.Common.{◌≡◌, false, List, Ok, sym, refl, ap, ◌∙◌, arith}
-use Rattle.cnf.specs.Arranging.{names}
-use Rattle.engine.specs.declared.answers.Entry.{Entry}
-use Rattle.engine.specs.Meaning.{values, values_of, joined_by}
-use Rattle.core_first.specs.CoreSides.{core_meaning}
-use Rattle.engine.proofs.Refusing.{alike, assume_done}
-use Rattle.engine.proofs.Consistent.{trail_room, within_inside}
-use Rattle.engine.proofs.Keeping.{assumes_well}
-use Rattle.core_first.proofs.CoreWhole.{held_texts_lem, held_marks_lem, whole_at}
+use Rattle.std.proofs.lemmas.Result.{err_from_is_err_and}
+use Rattle.core_first.specs.CoreSides.{at_rest}
+use Rattle.core_first.proofs.CoreWhole.{goes_on}
 use Rattle.core_first.proofs.serving.CoreFirstEngine.assume.Goals as goal
 
-pub push-requires : goal.push-requires
-push-requires g c =
-    let m = core_meaning g.P.Engine.meaning g.R.Engine.meaning c.args.self.now in
-    let l = c.args.literal in
-    let new : names l.variable (values m) ≡ false = ap (λ (t : List Entry). names l.variable (values_of t)) (sym c.entries.ensures) ∙ sym c.if-has_value.ensures in
-    record {
-      tidy = c.requires.whole.tidy;
-      room = trail_room m.trail l c.requires.whole.well.consistent (within_inside l (omega (arith, c.if-literal-eq0.false)) c.if-literal-gt-MOST_VARIABLES.false) new;
-    }
+pub invariant_of-self : goal.invariant_of-self
+invariant_of-self g c =
+    let s = c.args.self.now in
+    let h = at_rest g.P.Engine.meaning g.R.Engine.meaning s.sides s.room in
+    record { whole = (goes_on s.session s.whole s.sides c.assume.new.self (c.in_err-assume.ensures h).1 s.whole.backed).1 }
+
+pub returns-in_err-assume : goal.returns-in_err-assume
+returns-in_err-assume g c =
+    let s = c.args.self.now in
+    let h = at_rest g.P.Engine.meaning g.R.Engine.meaning s.sides s.room in
+    let p = err_from_is_err_and c.from_residual.result c.from_residual.ensures.1 in
+    record { does = rw (p.1, p.2) (c.in_err-assume.ensures h) }
+
+pub invariant_of-self-2 : goal.invariant_of-self-2
+invariant_of-self-2 g c =
+    let s = c.args.self.now in
+    let h = at_rest g.P.Engine.meaning g.R.Engine.meaning s.sides s.room in
+    let q = c.in_ok-assume.ensures h in
+    record { whole = (goes_on s.session s.whole c.assume-2.new.self c.assume.new.self q.1 (c.assume-2.ensures.carries _ q.0 s.whole.backed)).1 }
 
 pub returns : goal.returns
 returns g c =
-    let m = core_meaning g.P.Engine.meaning g.R.Engine.meaning c.args.self.now in
-    let l = c.args.literal in
-    let new : names l.variable (values m) ≡ false = ap (λ (t : List Entry). names l.variable (values_of t)) (sym c.entries.ensures) ∙ sym c.if-has_value.ensures in
-    let inside = within_inside l (omega (arith, c.if-literal-eq0.false)) c.if-literal-gt-MOST_VARIABLES.false in
-    let free = assume_done m l c.if-not-self.false inside new in
-    let whole = c.requires.whole in
-    let z = c.assume.new.self in
-    let p = g.P.Engine.meaning z.preferred in
-    let r = g.R.Engine.meaning z.rest in
-    let n = joined_by l 0 m in
-    let b = c.assume.ensures.carries m free whole.backed in
-    let after = alike {n = n} (held_texts_lem z.linked p r n b) (held_marks_lem z.linked p r n b) c.push.ensures.joined refl refl refl refl in
-    record {
-      does = (free, after);
-      stays = record { both = c.assume.ensures.stays; whole = whole_at after b (assumes_well m whole.well l (Ok tt) n (free, refl)) c.push.ensures.tidy whole.text_count whole.literal_count };
-    }
+    let s = c.args.self.now in
+    let h = at_rest g.P.Engine.meaning g.R.Engine.meaning s.sides s.room in
+    let q = c.in_ok-assume.ensures h in
+    record { does = (q.0, (goes_on s.session s.whole c.assume-2.new.self c.assume.new.self q.1 (c.assume-2.ensures.carries _ q.0 s.whole.backed)).0) }

@@ -1,39 +1,49 @@
 use Rattle.std.proofs.Common.{refl}
-use Rattle.cnf.proofs.Derivations.{forced_new}
-use Rattle.engine.specs.declared.answers.Answer.TheVariants.{Forced}
-use Rattle.engine.specs.Meaning.{values, text_of, answered}
-use Rattle.engine.proofs.Refusing.{alike, trial_done}
-use Rattle.engine.proofs.Consistent.{trail_room}
-use Rattle.engine.proofs.Keeping.{forced_inside, answered_well}
-use Rattle.core_first.specs.CoreSides.{core_meaning}
-use Rattle.core_first.proofs.CoreWhole.{held_texts_lem, held_marks_lem, whole_at}
+use Rattle.std.proofs.lemmas.Result.{err_from_is_err_and}
+use Rattle.engine.specs.Sessions.{in_session}
+use Rattle.engine.proofs.Keeping.{open_trial}
+use Rattle.engine.proofs.Parts.{answer_joins}
+use Rattle.engine.proofs.Refusing.{judged_fault, judged_none}
+use Rattle.core_first.specs.CoreSides.{at_rest}
+use Rattle.core_first.specs.CoreLaws.{core_laws}
+use Rattle.core_first.proofs.CoreWhole.{goes_on}
 use Rattle.core_first.proofs.serving.CoreFirstEngine.next.Goals as goal
 
-pub push-requires : goal.push-requires
-push-requires g c =
-    let m = core_meaning g.P.Engine.meaning g.R.Engine.meaning c.args.self.now in
-    let l = c.in-Forced.literal in
-    let n = c.in-Forced.number in
-    let whole = c.requires.whole in
-    let says = (c.in-Forced.ensures.answers m c.if-not-self.false whole.backed).0 in
-    record {
-      tidy = whole.tidy;
-      room = trail_room m.trail l whole.well.consistent (forced_inside m whole.well n l says.0 says.1) (forced_new (values m) (text_of m n) l says.1);
-    }
+pub returns-in_err-opened-clause-does : goal.returns-in_err-opened-clause-does
+returns-in_err-opened-clause-does g c =
+    let s = c.args.self.now in
+    let p = err_from_is_err_and c.from_residual.result c.from_residual.ensures.1 in
+    rw (p.1, p.2) (judged_fault _ _ (c.in_err-opened.ensures (at_rest g.P.Engine.meaning g.R.Engine.meaning s.sides s.room)), refl)
 
-pub returns-in-Forced : goal.returns-in-Forced
-returns-in-Forced g c =
-    let m = core_meaning g.P.Engine.meaning g.R.Engine.meaning c.args.self.now in
-    let a = Forced c.in-Forced.literal c.in-Forced.number in
-    let whole = c.requires.whole in
-    let opened = c.if-not-self.false in
-    let z = c.next-answer.new.self in
-    let p = g.P.Engine.meaning z.preferred in
-    let r = g.R.Engine.meaning z.rest in
-    let q = c.in-Forced.ensures.answers m opened whole.backed in
-    let after = alike {n = answered m a} (held_texts_lem z.linked p r (answered m a) q.1) (held_marks_lem z.linked p r (answered m a) q.1) c.push.ensures.joined refl c.saturating_add-self.ensures refl refl in
-    record {
-      does = (trial_done m opened, q.0, after);
-      stays = record { both = c.next-answer.ensures.stays; whole = whole_at after q.1 (answered_well m whole.well opened a q.0) c.push.ensures.tidy whole.text_count whole.literal_count };
-      picked = tt;
-    }
+pub note-requires-clause-open : goal.note-requires-clause-open
+note-requires-clause-open g c =
+    let s = c.args.self.now in
+    let h = at_rest g.P.Engine.meaning g.R.Engine.meaning s.sides s.room in
+    open_trial (in_session s.session h) (judged_none _ (c.in_ok-opened.ensures h))
+
+pub note-requires-clause-joins : goal.note-requires-clause-joins
+note-requires-clause-joins g c =
+    let s = c.args.self.now in
+    let h = at_rest g.P.Engine.meaning g.R.Engine.meaning s.sides s.room in
+    let m = in_session s.session h in
+    let none = judged_none _ (c.in_ok-opened.ensures h) in
+    let q = c.next-answer.ensures.answers m (open_trial m none) s.whole.backed in
+    answer_joins m (core_laws g.P.Engine.meaning g.R.Engine.meaning g.P.Engine.laws s.sides s.room s.session s.whole) c.next-answer.result q.0
+
+pub invariant_of-self : goal.invariant_of-self
+invariant_of-self g c =
+    let s = c.args.self.now in
+    let h = at_rest g.P.Engine.meaning g.R.Engine.meaning s.sides s.room in
+    let m = in_session s.session h in
+    let none = judged_none _ (c.in_ok-opened.ensures h) in
+    let q = c.next-answer.ensures.answers m (open_trial m none) s.whole.backed in
+    record { whole = (goes_on s.session s.whole c.next-answer.new.self c.note.new.self (c.note.ensures h) q.1).1 }
+
+pub returns-clause-does : goal.returns-clause-does
+returns-clause-does g c =
+    let s = c.args.self.now in
+    let h = at_rest g.P.Engine.meaning g.R.Engine.meaning s.sides s.room in
+    let m = in_session s.session h in
+    let none = judged_none _ (c.in_ok-opened.ensures h) in
+    let q = c.next-answer.ensures.answers m (open_trial m none) s.whole.backed in
+    (none, q.0, (goes_on s.session s.whole c.next-answer.new.self c.note.new.self (c.note.ensures h) q.1).0)

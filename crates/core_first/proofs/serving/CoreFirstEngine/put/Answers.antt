@@ -1,40 +1,65 @@
-use Rattle.std.proofs.Common.{◌≡◌, ℕ, ◌+◌, length, Ok, sym, refl, ap, ◌∙◌}
-use Rattle.std.proofs.lemmas.List.{length_push}
-use Rattle.cnf.specs.Clauses.{Clause, literals}
+use Rattle.std.proofs.Common.{◌≡◌, not, length, Ok, sym, refl, ap, ◌∙◌}
+use Rattle.std.proofs.lemmas.Result.{err_from_is_err_and}
+use Rattle.cnf.specs.Clauses.{Clause}
 use Rattle.cnf.specs.Arranging.{arranged, arrangement}
-use Rattle.engine.specs.Meaning.{highest, with_text}
-use Rattle.core_first.specs.CoreSides.{core_meaning}
-use Rattle.engine.proofs.Refusing.{alike, put_full, put_done, arranges}
-use Rattle.engine.proofs.Keeping.{puts_well, literals_push}
-use Rattle.core_first.proofs.CoreWhole.{held_texts_lem, held_marks_lem, whole_at}
+use Rattle.engine.specs.Meaning.{highest}
+use Rattle.engine.specs.Sessions.{in_session}
+use Rattle.engine.proofs.Refusing.{put_faulty, put_full, put_done, arranges, shut_refuses, shut_passes, no_room_is}
+use Rattle.core_first.specs.CoreSides.{at_rest}
+use Rattle.core_first.proofs.CoreWhole.{one_more}
 use Rattle.core_first.proofs.serving.CoreFirstEngine.put.Goals as goal
 
-pub returns-then-not-has_room : goal.returns-then-not-has_room
-returns-then-not-has_room g c =
-    let m = core_meaning g.P.Engine.meaning g.R.Engine.meaning c.args.self.now in
+pub returns-in_err-shut : goal.returns-in_err-shut
+returns-in_err-shut g c =
+    let s = c.args.self.now in
+    let h = at_rest g.P.Engine.meaning g.R.Engine.meaning s.sides s.room in
+    let p = err_from_is_err_and c.from_residual.result c.from_residual.ensures.1 in
+    record { does = rw (p.1, p.2) (shut_refuses (in_session s.session h) _ _ (c.in_err-shut.ensures h), refl) }
+
+pub returns-in_err-text : goal.returns-in_err-text
+returns-in_err-text g c =
+    let s = c.args.self.now in
+    let h = at_rest g.P.Engine.meaning g.R.Engine.meaning s.sides s.room in
+    let shut = shut_passes (in_session s.session h) (c.in_ok-shut.ensures h) in
+    let p = err_from_is_err_and c.from_residual-in_err-text.result c.from_residual-in_err-text.ensures.1 in
+    record { does = rw (p.1, p.2) (put_faulty (in_session s.session h) c.args.literals.now _ shut (sym c.arrange-draft.ensures.outcome ∙ sym c.in_err-text.ensures), refl) }
+
+pub returns-then-not-has : goal.returns-then-not-has
+returns-then-not-has g c =
+    let s = c.args.self.now in
+    let h = at_rest g.P.Engine.meaning g.R.Engine.meaning s.sides s.room in
+    let m = in_session s.session h in
     let ls = c.args.literals.now in
     let text = c.in_ok-text.text.now in
+    let shut = shut_passes m (c.in_ok-shut.ensures h) in
     let clause : arrangement highest ls ≡ Ok text = sym c.arrange-draft.ensures.outcome ∙ sym c.in_ok-text.ensures in
-    record { does = (put_full m ls text c.if-self.false clause (sym c.if-not-has_room.ensures), refl); stays = c.requires }
+    let room = no_room_is m _ _ (length text) s.whole.text_count s.whole.literal_count ∙ sym (ap not c.if-not-has.ensures) in
+    record { does = (put_full m ls text shut clause room, refl) }
+
+pub invariant_of-self : goal.invariant_of-self
+invariant_of-self g c =
+    let s = c.args.self.now in
+    let h = at_rest g.P.Engine.meaning g.R.Engine.meaning s.sides s.room in
+    let m = in_session s.session h in
+    let ls = c.args.literals.now in
+    let text = c.in_ok-text.text.now in
+    let shut = shut_passes m (c.in_ok-shut.ensures h) in
+    let clause : arrangement highest ls ≡ Ok text = sym c.arrange-draft.ensures.outcome ∙ sym c.in_ok-text.ensures in
+    let room = no_room_is m _ _ (length text) s.whole.text_count s.whole.literal_count ∙ sym (ap not c.if-not-has.ensures) in
+    let free = put_done m ls text shut clause room in
+    let q = one_more s.session s.whole c.put.new.self c.take.new.self (arranged ls) (length text) (c.put.ensures.carries m free s.whole.backed) (ap (λ (d : Clause). length d) (arranges ls text clause).2) c.take.ensures.limits c.take.ensures.more in
+    record { whole = q.1 }
 
 pub returns : goal.returns
 returns g c =
-    let m = core_meaning g.P.Engine.meaning g.R.Engine.meaning c.args.self.now in
+    let s = c.args.self.now in
+    let h = at_rest g.P.Engine.meaning g.R.Engine.meaning s.sides s.room in
+    let m = in_session s.session h in
     let ls = c.args.literals.now in
     let text = c.in_ok-text.text.now in
+    let shut = shut_passes m (c.in_ok-shut.ensures h) in
     let clause : arrangement highest ls ≡ Ok text = sym c.arrange-draft.ensures.outcome ∙ sym c.in_ok-text.ensures in
-    let free = put_done m ls text c.if-self.false clause (sym c.if-not-has_room.ensures) in
-    let whole = c.requires.whole in
-    let z = c.put.new.self in
-    let p = g.P.Engine.meaning z.preferred in
-    let r = g.R.Engine.meaning z.rest in
-    let n = with_text (arranged ls) m in
-    let b = c.put.ensures.carries m free whole.backed in
-    let after = alike {n = n} (held_texts_lem z.linked p r n b) (held_marks_lem z.linked p r n b) refl refl refl refl refl in
-    let texts = ap (λ (k : ℕ). k + 1) whole.text_count ∙ sym (length_push m.texts (arranged ls)) in
-    let long = ap (λ (d : Clause). length d) (sym (arranges ls text clause).2) in
-    let many = ap (λ (k : ℕ). k + length text) whole.literal_count ∙ ap (λ (k : ℕ). literals m.texts + k) long ∙ sym (literals_push m.texts (arranged ls)) in
-    record {
-      does = (free, after);
-      stays = record { both = c.put.ensures.stays; whole = whole_at after b (puts_well m whole.well ls (Ok tt) n (free, refl)) whole.tidy texts many };
-    }
+    let room = no_room_is m _ _ (length text) s.whole.text_count s.whole.literal_count ∙ sym (ap not c.if-not-has.ensures) in
+    let free = put_done m ls text shut clause room in
+    let q = one_more s.session s.whole c.put.new.self c.take.new.self (arranged ls) (length text) (c.put.ensures.carries m free s.whole.backed) (ap (λ (d : Clause). length d) (arranges ls text clause).2) c.take.ensures.limits c.take.ensures.more in
+    record { does = (free, q.0) }

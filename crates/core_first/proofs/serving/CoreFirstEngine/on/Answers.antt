@@ -1,0 +1,22 @@
+use Rattle.std.proofs.Common.{◌-◌, true, set}
+use Rattle.engine.specs.Meaning.{no_on}
+use Rattle.engine.proofs.Refusing.{judged_none}
+use Rattle.core_first.specs.CoreSides.{core_meaning}
+use Rattle.core_first.proofs.CoreWhole.{can_turn, turned}
+use Rattle.core_first.proofs.serving.CoreFirstEngine.on.Goals as goal
+
+pub invariant_of-self : goal.invariant_of-self
+invariant_of-self g c =
+    let s = c.args.self.now in
+    let m = core_meaning g.P.Engine.meaning g.R.Engine.meaning s.sides s.room s.session in
+    let n = c.args.number in
+    let can = can_turn m n (judged_none _ c.in_ok-can_turn.ensures) in
+    record { whole = (turned s.session s.whole c.on.new.self (no_on m n) (set m.on (n - 1) true) c.on.result (c.on.ensures.turns m can.0 can.1 s.whole.backed)).1 }
+
+pub returns : goal.returns
+returns g c =
+    let s = c.args.self.now in
+    let m = core_meaning g.P.Engine.meaning g.R.Engine.meaning s.sides s.room s.session in
+    let n = c.args.number in
+    let can = can_turn m n (judged_none _ c.in_ok-can_turn.ensures) in
+    record { does = (turned s.session s.whole c.on.new.self (no_on m n) (set m.on (n - 1) true) c.on.result (c.on.ensures.turns m can.0 can.1 s.whole.backed)).0 }
