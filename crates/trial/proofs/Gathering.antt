@@ -1,59 +1,76 @@
 -- Gathering the row of a conflict.
-use Rattle.std.proofs.Common.{◌≡◌, ℕ, suc, ◌+◌, ◌≤◌, Bool, true, false, cond, ◌||◌, List, [], ◌∷◌, map, length, get_or, sym, ap, ◌∙◌, subst, arith}
+use Rattle.std.proofs.Common.{◌≡◌, ℕ, zero, suc, ◌+◌, ◌≤◌, Bool, true, false, cond, ◌||◌, List, [], ◌∷◌, ◌++◌, map, length, reverse, sym, refl, ap, ◌∙◌, subst, arith}
+use mathlib.Core.List.Memᴰ.{head as here}
+use mathlib.Core.List.Memᴰ.{tail as there}
+use Rattle.std.proofs.lemmas.List.{length_push, reverse-append}
 use Rattle.cnf.specs.declared.literals.Literal.{Literal}
+use Rattle.cnf.specs.declared.literals.Forced.{Forced}
 use Rattle.cnf.specs.Literals.{complement}
-use Rattle.cnf.specs.Clauses.{Clause}
-use Rattle.drup.specs.declared.Forced.{Forced}
-use Rattle.drup.specs.Backward.{holds, stands_in, gathered}
-use Rattle.engine.specs.Meaning.{text_in}
+use Rattle.cnf.specs.Clauses.{Clause, ◌∈◌, Within}
+use Rattle.drup.specs.Backward.{holds, gathered}
+use Rattle.engine.specs.Meaning.{highest, text_in}
+use Rattle.engine.proofs.Keeping.{get_or_in}
 use Rattle.trial.specs.declared.seen.Seen.{Seen}
-use Rattle.trial.specs.Noted.{blank, latest_of}
+use Rattle.trial.specs.Numbered.{Numbered}
 use Rattle.trial.specs.Seeing.{sees, SeesJust}
+use Rattle.trial.specs.Gathering.{AllWithin, AllKnown}
 use Rattle.trial.proofs.Seeing.{seen_more}
 
--- on the way back, with so many answers left: what is seen, what the row comes to, and that there is room
-abbrev pub Gathers : (clauses : List Clause) (answers : List Forced) (goal : List ℕ) (left : ℕ) (s : Seen) (row : List ℕ) → Type 0
-Gathers clauses answers goal left s row =
-    SeesJust s (map (text_in clauses) row)
-    × (gathered (text_in clauses) (latest_of answers left) row ≡ goal)
-    × (length row + left ≤ 513)
+-- the clause with a number is one of the clauses, so its variables are in range
+pub clause_within : {clauses : List Clause} {n : ℕ} {c : Clause} → c ≡ text_in clauses n → AllWithin clauses → Numbered clauses n → Within highest c
+clause_within {n = zero} e within h = absurd (omega arith)
+clause_within {clauses} {n = suc k} e within h = subst (Within highest) (sym e) (within (text_in clauses (suc k)) (get_or_in clauses k [] (omega arith)))
 
-module _ (clauses : List Clause) (answers : List Forced) where
-  -- the conflict alone
-  pub gather_first : (count left conflict : ℕ) (s s' : Seen) (row row' : List ℕ) (c : Clause)
-      → left ≡ count → count ≤ 512 → ((l : Literal) → sees s l ≡ false) → row ≡ [] → row' ≡ conflict ∷ row → c ≡ text_in clauses conflict
-      → ((l : Literal) → sees s' l ≡ (holds l c || sees s l))
-      → Gathers clauses answers (gathered (text_in clauses) (latest_of answers count) (conflict ∷ [])) left s' row'
-  gather_first count left conflict s s' row row' c e few none empty one text more =
-      let r : row' ≡ conflict ∷ [] = one ∙ ap (λ (t : List ℕ). conflict ∷ t) empty in
-      let long = ap (λ (t : List ℕ). length t) r in (
-        subst (λ (t : List ℕ). SeesJust s' (map (text_in clauses) t)) (sym r) (seen_more c (text_in clauses conflict) [] s s' text none more),
-        ap (λ (t : List ℕ). gathered (text_in clauses) (latest_of answers left) t) r ∙ ap (λ (k : ℕ). gathered (text_in clauses) (latest_of answers k) (conflict ∷ [])) e,
-        omega arith,
-      )
+-- on the way back, with these answers left, oldest first, and these numbers found, from the last one to the first: the
+-- answers are known, just the row's clauses were seen, the row comes to the goal, and there is room for it
+pub record Gathers (clauses : List Clause) (goal : List ℕ) (left : List Forced) (s : Seen) (found : List ℕ) : Type 0 where
+  pub known : AllKnown clauses (reverse left)
+  pub seen : SeesJust s (map (text_in clauses) (reverse found))
+  pub comes_to : gathered (text_in clauses) (reverse left) (reverse found) ≡ goal
+  pub room : length found + length left ≤ highest + 1
 
-  -- one answer back
-  module _ (goal : List ℕ) (left k : ℕ) (e : left ≡ suc k) (s : Seen) (row : List ℕ) (inv : Gathers clauses answers goal left s row)
-      (f : Forced) (at : f ≡ get_or answers k blank) where
-    one_back : (b : Bool) → sees s (complement f.literal) ≡ b → gathered (text_in clauses) (latest_of answers k) (cond b (f.number ∷ row) row) ≡ goal
-    one_back b p =
-        ap (λ (x : Bool). gathered (text_in clauses) (latest_of answers k) (cond x (f.number ∷ row) row))
-        (sym p ∙ inv.0 (complement f.literal))
-        ∙ ap (λ (x : Forced). gathered (text_in clauses) (latest_of answers k) (cond (stands_in (complement x.literal) (map (text_in clauses) row)) (x.number ∷ row) row)) at
-        ∙ ap (λ (j : ℕ). gathered (text_in clauses) (latest_of answers j) row) (sym e)
-        ∙ inv.1
+-- one answer back
+module _ {clauses : List Clause} {goal : List ℕ} {left : List Forced} {s : Seen} {found : List ℕ} (inv : Gathers clauses goal left s found)
+    (f : Forced) (earlier : List Forced) (e : left ≡ earlier ++ f ∷ []) where
+  back : reverse left ≡ f ∷ reverse earlier
+  back = ap reverse e ∙ reverse-append earlier (f ∷ [])
 
-    -- its clause is left out
-    pub gather_past : sees s (complement f.literal) ≡ false → Gathers clauses answers goal k s row
-    gather_past p = let room = inv.2 in (inv.0, one_back false p, omega arith)
+  fewer : length left ≡ length earlier + 1
+  fewer = ap length e ∙ length_push earlier f
 
-    -- or put ahead
-    pub gather_in : sees s (complement f.literal) ≡ true → (c : Clause) (s' : Seen) (row' : List ℕ) → row' ≡ f.number ∷ row → c ≡ text_in clauses f.number
-        → ((j : Literal) → sees s' j ≡ (holds j c || sees s j)) → Gathers clauses answers goal k s' row'
-    gather_in p c s' row' one text more =
-        let room = inv.2 in
-        let long = ap (λ (t : List ℕ). length t) one in (
-          subst (λ (t : List ℕ). SeesJust s' (map (text_in clauses) t)) (sym one) (seen_more c (text_in clauses f.number) (map (text_in clauses) row) s s' text inv.0 more),
-          ap (λ (t : List ℕ). gathered (text_in clauses) (latest_of answers k) t) one ∙ one_back true p,
-          omega arith,
-        )
+  -- it has a clause, and its literal is in range
+  pub latest_known : Numbered clauses f.number × (f.literal.variable ≤ highest)
+  latest_known = inv.known f (subst (λ (t : List Forced). f ∈ t) (sym back) (here refl))
+
+  earlier_known : AllKnown clauses (reverse earlier)
+  earlier_known k m = inv.known k (subst (λ (t : List Forced). k ∈ t) (sym back) (there m))
+
+  chosen : (b : Bool) → sees s (complement f.literal) ≡ b
+      → gathered (text_in clauses) (reverse earlier) (cond b (f.number ∷ reverse found) (reverse found)) ≡ goal
+  chosen b p =
+      ap (λ (x : Bool). gathered (text_in clauses) (reverse earlier) (cond x (f.number ∷ reverse found) (reverse found))) (sym p ∙ inv.seen (complement f.literal))
+      ∙ ap (λ (t : List Forced). gathered (text_in clauses) t (reverse found)) (sym back)
+      ∙ inv.comes_to
+
+  -- its clause is left out
+  pub gather_past : sees s (complement f.literal) ≡ false → Gathers clauses goal earlier s found
+  gather_past p =
+      let room = inv.room in
+      let n = fewer in
+      record { known = earlier_known; seen = inv.seen; comes_to = chosen false p; room = omega arith }
+
+  -- or put ahead
+  pub gather_in : sees s (complement f.literal) ≡ true → {c : Clause} {s' : Seen} {found' : List ℕ} → found' ≡ found ++ f.number ∷ []
+      → c ≡ text_in clauses f.number → ((j : Literal) → sees s' j ≡ (holds j c || sees s j)) → Gathers clauses goal earlier s' found'
+  gather_in p {c} {s'} {found'} one text more =
+      let room = inv.room in
+      let n = fewer in
+      let longer = ap length one ∙ length_push found f.number in
+      let ahead : reverse found' ≡ f.number ∷ reverse found = ap reverse one ∙ reverse-append found (f.number ∷ []) in
+      record {
+        known = earlier_known;
+        seen = subst (λ (row : List ℕ). SeesJust s' (map (text_in clauses) row)) (sym ahead)
+            (seen_more c (text_in clauses f.number) (map (text_in clauses) (reverse found)) s s' text inv.seen more);
+        comes_to = ap (gathered (text_in clauses) (reverse earlier)) ahead ∙ chosen true p;
+        room = omega arith;
+      }

@@ -1,10 +1,7 @@
-pub mod Noting
-pub mod Members
-pub mod Counted
 pub mod Supposing
 pub mod Asking
 pub mod Trying
+pub mod Deciding
 pub mod Seeing
 pub mod Gathering
-pub mod Allowed
 pub mod Conflicts

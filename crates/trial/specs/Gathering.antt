@@ -1,14 +1,14 @@
 -- The antecedents that are gathered, and what they are gathered from.
-use Rattle.std.specs.Prelude.{ℕ, ◌≤◌, List, drop}
+use Rattle.std.specs.Prelude.{ℕ, ◌≤◌, List}
 use Rattle.cnf.specs.Clauses.{Clause, ◌∈◌, Within}
-use Rattle.drup.specs.declared.Forced.{Forced}
+use Rattle.cnf.specs.declared.literals.Forced.{Forced}
 use Rattle.engine.specs.Meaning.{highest}
 use Rattle.trial.specs.declared.antecedents.Antecedents.{Antecedents}
 use Rattle.trial.specs.Numbered.{Numbered}
 
 -- the numbers, in order of derivation
 abbrev pub numbers_of : Antecedents → List ℕ
-numbers_of a = drop a.start a.table
+numbers_of a = a.numbers.items
 
 -- all variables of the clauses are in range
 abbrev pub AllWithin : List Clause → Type 0

@@ -4,3 +4,4 @@ pub mod Trying
 pub mod Numbered
 pub mod Seeing
 pub mod Gathering
+pub mod Trials

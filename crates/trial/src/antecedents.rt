@@ -1,13 +1,24 @@
 //! The antecedents of a lemma.
-ghost use Rattle.std.specs.Prelude.{◌≤◌};
+ghost use Rattle.std.specs.Prelude.{◌≡◌};
+ghost use Rattle.trial.specs.Gathering.{numbers_of};
 
-pub mod filling;
+use crate::answers::MOST_ANSWERS;
+use arrayvec::ArrayVec;
 
-/// The numbers of a lemma's antecedents in order of derivation. They are found from the last to the first, so they stand
-/// at the end of their table, and `start` says where.
+/// The clause of the conflict is an antecedent, and that of each answer may be.
+const MOST_ANTECEDENTS: usize = MOST_ANSWERS + 1;
+
+/// The numbers of a lemma's antecedents, in order of derivation.
 #[derive(Drop)]
 pub struct Antecedents {
-    table: [u16; 513],
-    start: usize,
-    ghost tidy: { start ≤ 513 },
+    pub(crate) numbers: ArrayVec<u16, MOST_ANTECEDENTS>,
+}
+
+impl Antecedents {
+    /// The numbers, in order of derivation.
+    pub fn numbers(&self) -> &[u16]
+        ensures { result.now ≡ numbers_of self.now }
+    {
+        &self.numbers
+    }
 }

@@ -4,8 +4,7 @@
 
 pub mod answers;
 pub mod antecedents;
-pub mod calls;
-pub mod ends;
+pub mod clauses;
 pub mod rows;
 mod seen;
 pub mod texts;

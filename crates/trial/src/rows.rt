@@ -12,7 +12,8 @@ use crate::answers::Answers;
 use crate::antecedents::Antecedents;
 use crate::seen::Seen;
 use crate::texts::Texts;
-use drup::Forced;
+use arrayvec::ArrayVec;
+use cnf::literals::Forced;
 
 /// Whether the clause that forced this literal is an antecedent: the literal's complement was seen.
 fn enters(seen: &Seen, forced: Forced) -> bool
@@ -26,22 +27,22 @@ fn enters(seen: &Seen, forced: Forced) -> bool
 /// from the latest answer back, the clause that forced a literal is put ahead if the literal's complement stands in a
 /// clause of the row.
 pub fn row_of<T: Texts>(texts: &T, answers: &Answers, conflict: u16) -> Antecedents
-    requires sound { T.Texts.sound texts.now }
-    requires within { AllWithin (T.Texts.clauses texts.now) }
-    requires known { AllKnown (T.Texts.clauses texts.now) (latest answers.now) }
-    requires numbered { Numbered (T.Texts.clauses texts.now) conflict }
-    ensures { numbers_of result ≡ gathered (text_in (T.Texts.clauses texts.now)) (latest answers.now) (conflict ∷ []) }
+    requires within { AllWithin (T.clauses texts.now) }
+    requires known { AllKnown (T.clauses texts.now) (latest answers.now) }
+    requires numbered { Numbered (T.clauses texts.now) conflict }
+    ensures { numbers_of result ≡ gathered (text_in (T.clauses texts.now)) (latest answers.now) (conflict ∷ []) }
 {
     let mut seen = Seen::new();
-    let mut row = Antecedents::new();
-    row.push_front(conflict);
+    let mut numbers = ArrayVec::new();
+    numbers.push(conflict);
     seen.add_clause(texts.clause(conflict));
-    for i in (0..answers.len()).rev() {
-        let forced = answers.at(i);
-        if enters(&seen, forced) {
-            row.push_front(forced.number);
+    for forced in answers.entries().iter().rev() {
+        if enters(&seen, *forced) {
+            numbers.push(forced.number);
             seen.add_clause(texts.clause(forced.number));
         }
     }
-    row
+    // They were found from the last to the first.
+    numbers.reverse();
+    Antecedents { numbers }
 }

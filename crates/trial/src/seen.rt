@@ -7,14 +7,23 @@ ghost use Rattle.drup.specs.Backward.{holds};
 ghost use Rattle.engine.specs.Meaning.{highest};
 ghost use Rattle.trial.specs.Seeing.{sees};
 
+use cnf::drafts::MOST_VARIABLES;
 use cnf::literals::Literal;
 
-/// Of each variable whether its positive literal was seen, and whether its negative one was. The variable 0 has a place
-/// too, so that a variable is its own index.
+/// The variable 0 has a place too, so that a variable is its own index.
+const PLACES: usize = MOST_VARIABLES as usize + 1;
+
+/// Of a variable whether its positive literal was seen, and whether its negative one was.
+#[derive(Clone, Copy, Default)]
+pub(crate) struct Signs {
+    positive: bool,
+    negative: bool,
+}
+
+/// The signs of each variable that were seen.
 #[derive(Drop)]
 pub(crate) struct Seen {
-    positive: [bool; 513],
-    negative: [bool; 513],
+    signs: [Signs; PLACES],
 }
 
 impl Seen {
@@ -23,8 +32,7 @@ impl Seen {
         ensures { (l : Lit) → sees result l ≡ false }
     {
         Seen {
-            positive: [false; 513],
-            negative: [false; 513],
+            signs: [Signs::default(); PLACES],
         }
     }
 
@@ -33,11 +41,11 @@ impl Seen {
         requires { literal.variable ≤ highest }
         ensures { result ≡ sees self.now literal }
     {
-        let place = literal.variable as usize;
+        let signs = self.signs[usize::from(literal.variable)];
         if literal.negated {
-            self.negative[place]
+            signs.negative
         } else {
-            self.positive[place]
+            signs.positive
         }
     }
 
@@ -46,11 +54,11 @@ impl Seen {
         requires { literal.variable ≤ highest }
         ensures { (l : Lit) → sees self.new l ≡ (same_literal l literal || sees self.old l) }
     {
-        let place = literal.variable as usize;
+        let signs = &mut self.signs[usize::from(literal.variable)];
         if literal.negated {
-            self.negative[place] = true;
+            signs.negative = true;
         } else {
-            self.positive[place] = true;
+            signs.positive = true;
         }
     }
 

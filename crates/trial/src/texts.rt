@@ -11,12 +11,8 @@ pub trait Texts {
     /// The clauses, oldest first.
     ghost clauses: { Self → List Clause };
 
-    /// A table as its owner keeps it.
-    ghost sound: { Self → Type 0 };
-
     /// The literals of the clause with this number.
     fn clause(&self, number: u16) -> &[Literal]
-        requires sound { sound self.now }
-        requires numbered { Numbered (clauses self.now) number }
+        requires { Numbered (clauses self.now) number }
         ensures { result.now ≡ text_in (clauses self.now) number };
 }

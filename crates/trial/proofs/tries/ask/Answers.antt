@@ -1,41 +1,26 @@
-use Rattle.std.proofs.Common.{List, sym, subst, arith}
-use Rattle.drup.specs.declared.Forced.{Forced}
-use Rattle.trial.specs.Noted.{latest}
-use Rattle.trial.proofs.Asking.{Asked, at_start, room, goes_on, comes_out}
+use Rattle.std.proofs.Common.{List, length, sym, ap, ◌∙◌, subst, arith}
+use Rattle.std.proofs.lemmas.List.{length_push}
+use Rattle.cnf.specs.declared.literals.Forced.{Forced}
+use Rattle.trial.specs.Noted.{noted}
+use Rattle.trial.proofs.Asking.{Asked, goes_on, room, in_conflict, in_nothing}
 use Rattle.trial.proofs.tries.ask.Goals as goal
 
-pub loop-end-init : goal.loop-end-init
-loop-end-init g c =
-    let m = g.E.Engine.meaning c.args.engine.now in (
-      subst (λ (xs : List Forced). Asked m xs m) (sym c.clear.ensures) (at_start m (g.E.Engine.laws c.args.engine.now c.requires.sound)),
-      c.requires.sound,
-    )
+pub returns-in-Conflict-clause-right : goal.returns-in-Conflict-clause-right
+returns-in-Conflict-clause-right g c = in_conflict c.loop-number.invariant c.in-Conflict.number c.in-Conflict.ensures.says
 
-pub note-requires : goal.note-requires
-note-requires g c =
-    room (g.E.Engine.meaning c.args.engine.now) (latest c.loop-end.answers) (g.E.Engine.meaning c.loop-end.engine) c.loop-end.invariant.0
-    (g.E.Engine.laws c.args.engine.now c.requires.sound) c.next_answer-answer.result c.next_answer-answer.ensures.says
+pub returns-in-Nothing-clause-right : goal.returns-in-Nothing-clause-right
+returns-in-Nothing-clause-right g c = in_nothing c.loop-number.invariant c.in-Nothing.ensures.says
 
-pub returns-in-Some : goal.returns-in-Some
-returns-in-Some g c =
-    let out =
-    comes_out (g.E.Engine.meaning c.args.engine.now) (latest c.loop-end.answers) (g.E.Engine.meaning c.loop-end.engine) c.loop-end.invariant.0
-    c.next_answer-answer.result c.in-Some.end c.next_answer-answer.ensures.says (sym c.in-Some.ensures.ends)
-    (latest c.note.new.answers) c.note.ensures.noted (g.E.Engine.meaning c.next_answer-answer.new.engine) c.next_answer-answer.ensures.does in
-    record { does = out.0; right = out.1; stays = c.next_answer-answer.ensures.stays }
+pub push-requires : goal.push-requires
+push-requires g c = room c.loop-number.invariant c.in-Forced.forced c.in-Forced.ensures.says c.in-Forced.ensures.does (g.E.Engine.laws c.next.new.engine)
 
-pub loop-end-smaller : goal.loop-end-smaller
-loop-end-smaller g c =
-    let on =
-    goes_on (g.E.Engine.meaning c.args.engine.now) (latest c.loop-end.answers) (g.E.Engine.meaning c.loop-end.engine) c.loop-end.invariant.0
-    (g.E.Engine.laws c.args.engine.now c.requires.sound) c.next_answer-answer.result c.next_answer-answer.ensures.says (sym c.in_default.ensures.ends)
-    (latest c.note.new.answers) c.note.ensures.noted (g.E.Engine.meaning c.next_answer-answer.new.engine) c.next_answer-answer.ensures.does in
-    omega (arith, on.1.0, on.1.1)
+pub loop-number-smaller : goal.loop-number-smaller
+loop-number-smaller g c =
+    let h = room c.loop-number.invariant c.in-Forced.forced c.in-Forced.ensures.says c.in-Forced.ensures.does (g.E.Engine.laws c.next.new.engine) in
+    let e = ap length c.push.ensures ∙ length_push (noted c.loop-number.answers) c.in-Forced.forced in
+    omega arith
 
-pub loop-end-preserved : goal.loop-end-preserved
-loop-end-preserved g c =
-    let on =
-    goes_on (g.E.Engine.meaning c.args.engine.now) (latest c.loop-end.answers) (g.E.Engine.meaning c.loop-end.engine) c.loop-end.invariant.0
-    (g.E.Engine.laws c.args.engine.now c.requires.sound) c.next_answer-answer.result c.next_answer-answer.ensures.says (sym c.in_default.ensures.ends)
-    (latest c.note.new.answers) c.note.ensures.noted (g.E.Engine.meaning c.next_answer-answer.new.engine) c.next_answer-answer.ensures.does in
-    (on.0, c.next_answer-answer.ensures.stays)
+pub loop-number-preserved : goal.loop-number-preserved
+loop-number-preserved g c =
+    subst (λ (t : List Forced). Asked (g.E.Engine.meaning c.args.engine.now) t (g.E.Engine.meaning c.next.new.engine)) (sym c.push.ensures)
+    (goes_on c.loop-number.invariant c.in-Forced.forced c.in-Forced.ensures.says c.in-Forced.ensures.does)

@@ -4,6 +4,4 @@ use Rattle.trial.specs.Trying.{supposed}
 use Rattle.trial.proofs.tries.suppose.Given as goal
 
 abbrev pub invariant-loop-literal : goal.invariant-loop-literal
-invariant-loop-literal g l =
-    (g.E.Engine.meaning l.engine ≡ with_trail (supposed (take l.literal-index l.literals)) (g.E.Engine.meaning l.initial.engine))
-    × g.E.Engine.sound l.engine
+invariant-loop-literal g l = g.E.Engine.meaning l.engine ≡ with_trail (supposed (take l.literal-index l.literals)) (g.E.Engine.meaning l.initial.engine)
