@@ -7,13 +7,13 @@ use Rattle.cnf.specs.Clauses.{Clause}
 use Rattle.cnf.specs.Ascending.{ascending}
 use Rattle.cnf.specs.Arranging.{Arrangement, beyond, twice, in_range_until, new_until, arranged, arrangement, ClauseOf}
 use Rattle.cnf.proofs.Arranging.{arrangement_clause}
+use Rattle.cnf.proofs.Rising.{clause_ascending}
 use Rattle.drup.specs.History.{ended}
 use Rattle.job.specs.declared.faults.JobFault.{JobFault}
 use Rattle.job.specs.declared.faults.JobFault.TheVariants.{Begun, Ended, Full, NoneLive}
 use Rattle.job.specs.View.{View}
 use Rattle.job.specs.History.{steps_of}
 use Rattle.job.specs.Calls.{with_clause, is_full, clause_answer, lemma_answer, copy_in, found_or, strike_answer, last_step, withdraw_answer}
-use Rattle.job.proofs.Standing.{clause_ascending}
 
 -- literals that make a clause
 pub record Makes (variables : ℕ) (ls : List Literal) (c : Clause) : Type 0 where
@@ -41,13 +41,6 @@ makes variables ls c a h e f =
       same = arranged_is variables ls c is;
       rises = clause_ascending variables c (subst (ClauseOf variables ls) is (arrangement_clause variables ls)).0;
     }
-
--- literals that make none
-pub faulty : {A : Type 0} (variables : ℕ) (ls : List Literal) (next : Clause → Result A JobFault) (a : Arrangement) → variables ≤ 512
-    → a ≡ arrangement (min variables 512) ls → with_clause a next ≡ with_clause (arrangement variables ls) next
-faulty variables ls next a h e =
-    let m : min variables 512 ≡ variables = omega arith in
-    ap (λ (b : Arrangement). with_clause b next) (e ∙ ap (λ (n : ℕ). arrangement n ls) m)
 
 -- what is said of their clause
 said : {A : Type 0} (a : Arrangement) (c : Clause) (next : Clause → Result A JobFault) (r : Result A JobFault) → a ≡ Ok c → next c ≡ r

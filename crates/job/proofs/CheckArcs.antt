@@ -1,5 +1,5 @@
 -- Reading the rows back from the arc list.
-use Rattle.std.proofs.Common.{◌≡◌, ℕ, zero, suc, ◌+◌, ◌-◌, ◌*◌, ◌<◌, ◌≤◌, true, false, eqb, ltb, ◌⊎◌, List, [], ◌∷◌, length, get_or, replicate, sym, refl, ap, ◌∙◌, inl, inr, mul-le-mul_right, add-mul, one-mul, arith}
+use Rattle.std.proofs.Common.{◌≡◌, ℕ, suc, ◌+◌, ◌-◌, ◌*◌, ◌<◌, ◌≤◌, true, false, eqb, ltb, ◌⊎◌, List, [], ◌∷◌, length, get_or, replicate, sym, refl, ap, ◌∙◌, inl, inr, mul-le-mul_right, add-mul, one-mul, arith}
 use mathlib.Core.List.Memᴰ
 use mathlib.Core.List.Memᴰ.{cases_cons as in-cons}
 use mathlib.Core.List.Memᴰ.{head as here}
@@ -14,6 +14,10 @@ use Rattle.std.proofs.lemmas.Bool.{eqb-false, eqb-true, cases_Bool, ltb-true, lt
 use Rattle.drup.proofs.Reading.{written_row}
 use Rattle.job.specs.View.{View}
 use Rattle.job.specs.CheckLists.{row_start, arcs_of}
+
+-- a list of the same, and what a read past its end gives
+pub same_there : {A : Type 0} (k i : ℕ) (x : A) → get_or (replicate k x) i x ≡ x
+same_there k i x = grind (arith, places)
 
 module _ (d : List ℕ) (at : ℕ) (xs : List ℕ) (fits : at + length xs ≤ length d) where
   paste_in : (i : ℕ) → i < length xs → get_or (paste d at xs (length xs)) (at + i) 0 ≡ get_or xs i 0
@@ -87,12 +91,7 @@ module _ (s : View) where
       (rows : List Row) → ((r : Row) → r ∈ rows → Fits s r) → (n i : ℕ) (xs : List ℕ) → s.inputs < n → i < suc s.variables
       → ((r : Row) → r ∈ rows → r.lemma_number ≡ n → r.antecedents ≡ xs)
       → (get_or (arcs_of s rows) (row_start s n + i) 0 ≡ get_or xs i 0) ⊎ (get_or (arcs_of s rows) (row_start s n + i) 0 ≡ 0)
-  row_or_none [] f n i xs later h same = inr (zeros (length s.arcs) (row_start s n + i))
-    where
-      zeros : (k j : ℕ) → ◌≡◌ {A = ℕ} (get_or (replicate k 0) j 0) 0
-      zeros zero j = refl
-      zeros (suc k) zero = refl
-      zeros (suc k) (suc j) = zeros k j
+  row_or_none [] f n i xs later h same = inr (same_there (length s.arcs) (row_start s n + i) 0)
   row_or_none (row ∷ rows) f n i xs later h same =
       go (row_or_none rows (λ r x. f r (there x)) n i xs later h (λ r x. same r (there x))) (cases_Bool (eqb n row.lemma_number)) (cases_Bool (ltb i (length row.antecedents)))
     where

@@ -1,11 +1,11 @@
 -- What a check leaves of a job.
-use Rattle.std.proofs.Common.{◌≡◌, ℕ, zero, suc, ◌+◌, ◌-◌, ◌<◌, ◌≤◌, List, [], ◌∷◌, ◌++◌, map, length, get_or, take, drop, set, replicate, sym, refl, ap, ◌∙◌, subst, arith}
+use Rattle.std.proofs.Common.{◌≡◌, ℕ, zero, suc, ◌+◌, ◌-◌, ◌≤◌, List, [], ◌∷◌, ◌++◌, map, length, get_or, take, drop, set, replicate, sym, refl, ap, ◌∙◌, subst, arith}
 use mathlib.Core.List.Memᴰ.{head as here}
 use mathlib.Core.List.Memᴰ.{tail as there}
 use lib.ListN.{length-map}
 use lib.Seq.{paste}
 use Rattle.std.proofs.lemmas.List.Edits.{length-paste}
-use Rattle.std.proofs.lemmas.List.{length-replicate}
+use Rattle.std.proofs.lemmas.List.{length-replicate, take-map, drop-set-lt}
 use Rattle.cnf.specs.declared.literals.Literal.{Literal}
 use Rattle.cnf.specs.Clauses.{Clause, ◌∈◌}
 use Rattle.engine.specs.Meaning.{Meaning}
@@ -20,16 +20,6 @@ use Rattle.job.specs.Checking.{begun, wiped}
 texts_of_bare : (lits : List Literal) (rows : List ClauseRow) → texts_of (map bare rows) lits ≡ texts_of rows lits
 texts_of_bare lits [] = refl
 texts_of_bare lits (r ∷ rows) = ap (λ (t : List Clause). clause_at lits r ∷ t) (texts_of_bare lits rows)
-
-take_bare : (n : ℕ) (rows : List ClauseRow) → map bare (take n rows) ≡ take n (map bare rows)
-take_bare zero rows = refl
-take_bare (suc n) [] = refl
-take_bare (suc n) (r ∷ rows) = ap (λ (t : List ClauseRow). bare r ∷ t) (take_bare n rows)
-
-pub get_or_bare : (rows : List ClauseRow) (k : ℕ) → get_or (map bare rows) k blank_row ≡ bare (get_or rows k blank_row)
-get_or_bare [] k = refl
-get_or_bare (r ∷ rows) zero = refl
-get_or_bare (r ∷ rows) (suc k) = get_or_bare rows k
 
 -- marks change nothing else
 marked_bare : (rows : List ClauseRow) (k : ℕ) → map bare (set rows k (kept_row (get_or rows k blank_row))) ≡ map bare rows
@@ -47,18 +37,12 @@ bare_unmarked (suc c) [] = refl
 bare_unmarked (suc c) (r ∷ rows) = ap (λ (x : List ClauseRow). bare r ∷ x) (bare_unmarked c rows)
 
 -- and nothing beyond the clauses
-drop_set : (c k : ℕ) (rows : List ClauseRow) (row : ClauseRow) → k < c → drop c (set rows k row) ≡ drop c rows
-drop_set zero k rows row h = absurd (omega arith)
-drop_set (suc c) k [] row h = refl
-drop_set (suc c) zero (r ∷ rows) row h = refl
-drop_set (suc c) (suc k) (r ∷ rows) row h = drop_set c k rows row (omega arith)
-
 pub all_beyond : (c : ℕ) (row : List ℕ) (rows : List ClauseRow) → ((n : ℕ) → n ∈ row → (1 ≤ n) × (n ≤ c)) → drop c (mark_all row rows) ≡ drop c rows
 all_beyond c [] rows h = refl
 all_beyond c (n ∷ row) rows h =
     let z = h n (here refl) in
     all_beyond c row (set rows (n - 1) (kept_row (get_or rows (n - 1) blank_row))) (λ k m. h k (there m))
-    ∙ drop_set c (n - 1) rows (kept_row (get_or rows (n - 1) blank_row)) (omega (arith, z.0, z.1))
+    ∙ drop-set-lt c rows (n - 1) (kept_row (get_or rows (n - 1) blank_row)) (omega (arith, z.0, z.1))
 
 pub beyond_unmarked : (c : ℕ) (rows : List ClauseRow) → drop c (unmarked c rows) ≡ drop c rows
 beyond_unmarked zero rows = refl
@@ -71,7 +55,7 @@ unmarked_length (suc c) [] = refl
 unmarked_length (suc c) (r ∷ rows) = ap suc (unmarked_length c rows)
 
 same_cut : (c : ℕ) (rows was : List ClauseRow) → map bare rows ≡ map bare was → map bare (take c rows) ≡ map bare (take c was)
-same_cut c rows was e = take_bare c rows ∙ ap (take c) e ∙ sym (take_bare c was)
+same_cut c rows was e = sym (take-map bare c rows) ∙ ap (take c) e ∙ take-map bare c was
 
 -- unmarking forgets marks
 pub unmarked_same : (c : ℕ) (rows was : List ClauseRow) → map bare rows ≡ map bare was → drop c rows ≡ drop c was → unmarked c rows ≡ unmarked c was
@@ -162,7 +146,7 @@ framed_begun s h = record {
   but_for = refl;
   same_rows = all_bare (s.clauses ∷ []) (unmarked s.clauses s.rows) ∙ bare_unmarked s.clauses s.rows;
   same_beyond =
-      drop_set s.clauses (s.clauses - 1) (unmarked s.clauses s.rows) (kept_row (get_or (unmarked s.clauses s.rows) (s.clauses - 1) blank_row)) (omega arith)
+      drop-set-lt s.clauses (unmarked s.clauses s.rows) (s.clauses - 1) (kept_row (get_or (unmarked s.clauses s.rows) (s.clauses - 1) blank_row)) (omega arith)
       ∙ beyond_unmarked s.clauses s.rows;
   same_places = length-replicate (length s.arcs) 0;
 }

@@ -1,27 +1,21 @@
 -- The trial of a kept lemma: what its parts ask for.
-use Rattle.std.proofs.Common.{◌≡◌, ℕ, suc, ◌+◌, ◌-◌, ◌*◌, ◌<◌, ◌≤◌, List, [], ◌∷◌, map, length, get_or, sym, ap, ◌∙◌, subst, add-one, arith}
-use mathlib.Core.List.Memᴰ
+use Rattle.std.proofs.Common.{◌≡◌, ℕ, suc, ◌+◌, ◌-◌, ◌*◌, ◌≤◌, List, [], ◌∷◌, length, sym, ap, ◌∙◌, subst, add-one, arith}
 use lib.Seq.{paste}
 use Rattle.cnf.specs.declared.literals.Literal.{Literal}
-use Rattle.cnf.specs.Literals.{complement}
-use Rattle.cnf.specs.Clauses.{Clause, ◌∈◌, Within, IsClause}
+use Rattle.cnf.specs.Clauses.{Clause, ◌∈◌, Within}
 use Rattle.cnf.specs.Arranging.{beyond, twice}
-use Rattle.cnf.proofs.Arranging.{all_cons, clause_beyond, clause_twice}
-use Rattle.drup.specs.declared.Forced.{Forced}
-use Rattle.drup.specs.Backward.{RightOver, gathered, asked}
+use Rattle.cnf.proofs.Arranging.{clause_beyond, clause_twice}
+use Rattle.cnf.specs.declared.literals.Forced.{Forced}
+use Rattle.drup.specs.Backward.{RightOver, gathered}
 use Rattle.drup.proofs.Short.{asked_few}
-use Rattle.engine.specs.Meaning.{Meaning, On, text_of, Consistent, WellFormed}
+use Rattle.drup.proofs.Trials.{row_few}
+use Rattle.engine.specs.Meaning.{Meaning, On, text_of, Consistent, WellFormed, counted_by}
 use Rattle.engine.specs.Meaning.{text_in as text_from}
-use Rattle.trial.specs.declared.ends.TrialEnd.{TrialEnd}
-use Rattle.trial.specs.declared.ends.TrialEnd.TheVariants.{Conflict, Nothing}
-use Rattle.trial.specs.Trying.{counted_by, EndsRight}
-use Rattle.trial.specs.Gathering.{AllWithin, AllKnown}
-use Rattle.trial.proofs.Conflicts.{clauses_within, answers_known, row_few}
-use Rattle.job.specs.declared.jobs.reports.Tally.{Tally}
+use Rattle.trial.specs.Gathering.{AllKnown}
+use Rattle.trial.proofs.Conflicts.{answers_known}
 use Rattle.job.specs.View.{View, text_in, texts, with_rows, with_arcs}
 use Rattle.job.specs.CheckLists.{mark_all, row_start, recorded}
 use Rattle.job.specs.CheckShowing.{Holds}
-use Rattle.job.specs.CheckJudging.{raised, Passed, Failed}
 use Rattle.job.proofs.CheckFit.{Fit}
 use Rattle.job.proofs.CheckSurround.{same_number, wider}
 
@@ -30,21 +24,12 @@ place_same n i v =
     ap (λ (x : ℕ). x * (v + 1)) (let e : (n - 1) - i ≡ n - suc i = omega arith in e)
     ∙ ap (λ (x : ℕ). (n - suc i) * x) (add-one v)
 
-each_in : (P : Clause → Type 0) (ts : List Clause) → ((k : ℕ) → k < length ts → P (get_or ts k [])) → (c : Clause) → c ∈ ts → P c
-each_in P [] h = λ c x. absurd (Memᴰ.not-nil x)
-each_in P (t ∷ ts) h = all_cons P (h 0 (omega arith)) (each_in P ts (λ k b. h (suc k) (omega arith)))
-
 module _ (s : View) (o : Fit s) where
   -- a lemma can be assumed
   pub lemma_consistent : (n : ℕ) → 1 ≤ n → n ≤ s.clauses → (c : Clause) → c ≡ text_in (texts s) n → Consistent c
   lemma_consistent n low high c e =
       let is = wider s.variables 512 (text_in (texts s) n) o.range (o.clause n low high) in
       (ap (beyond 512) e ∙ clause_beyond 512 (text_in (texts s) n) is, ap twice e ∙ clause_twice 512 (text_in (texts s) n) is)
-
-  pub all_within : AllWithin (texts s)
-  all_within =
-      clauses_within s.variables (texts s) o.range
-      (each_in (IsClause s.variables) (texts s) (λ k h. let l = o.all_texts in o.clause (suc k) (omega arith) (omega arith)))
 
 module _ (m : Meaning) (s : View) (h : Holds m s) (o : Fit s) where
   pub same_texts : text_of m ≡ text_in (texts s)
@@ -55,34 +40,13 @@ module _ (m : Meaning) (s : View) (h : Holds m s) (o : Fit s) where
       let r = h.numbered k on in
       subst (Within s.variables) (λ i. sym same_texts i k) (o.clause k r.0 r.1).within
 
-  module _ (well : WellFormed m) (assumed : List Literal) (answers : List Forced) (right : RightOver (On m) (text_of m) assumed answers) where
-    pub all_known : AllKnown (texts s) answers
-    all_known = answers_known m well (texts s) (let e = ap length h.same in omega arith) assumed answers right
+  module _ (assumed : List Literal) (answers : List Forced) (right : RightOver (On m) (text_of m) assumed answers) where
+    pub all_known : WellFormed m → AllKnown (texts s) answers
+    all_known well = answers_known m well (texts s) (let e = ap length h.same in omega arith) assumed answers right
 
+    -- each forced literal has a variable of its own, and the job's are fewer than an engine's
     pub few_answers : length answers ≤ s.variables
     few_answers = let a = asked_few s.variables (On m) (text_of m) assumed on_within answers right in omega arith
-
-  module _ (n : ℕ) (answers : List Forced) (s' : View) (m' : Meaning) where
-    pub passed : (t t' : Tally) (at : ℕ) (end : TrialEnd) → end ≡ Conflict at → EndsRight m (map complement (text_in (texts s) n)) answers end
-        → s' ≡ recorded s n (gathered (text_of m) answers (at ∷ [])) → m' ≡ counted_by (asked answers) m
-        → t' ≡ raised (length (gathered (text_of m) answers (at ∷ []))) t → Passed s m t n s' m' t'
-    passed t t' at end e r l g q = record {
-      answers = answers;
-      at = at;
-      conflict = subst (EndsRight m (map complement (text_in (texts s) n)) answers) e r;
-      lists = l;
-      engine = g;
-      tally = q;
-    }
-
-    pub failed : (end : TrialEnd) → end ≡ Nothing → EndsRight m (map complement (text_in (texts s) n)) answers end → s' ≡ s → m' ≡ counted_by (asked answers) m
-        → Failed s m n s' m'
-    failed end e r l g = record {
-      answers = answers;
-      nothing = subst (EndsRight m (map complement (text_in (texts s) n)) answers) e r;
-      lists = l;
-      engine = g;
-    }
 
 -- the engine after the trial still holds the job's texts
 pub holds_after : (m m' : Meaning) (s : View) (k : ℕ) → m' ≡ counted_by k m → Holds m s → Holds m' s

@@ -3,7 +3,7 @@ use Rattle.std.proofs.Common.{◌≡◌, ℕ, suc, ◌+◌, ◌-◌, ◌*◌, �
 use mathlib.Core.Bool.{false≢true}
 use mathlib.Core.List.Memᴰ
 use lib.Seq.{paste}
-use Rattle.drup.specs.declared.Forced.{Forced as Entry}
+use Rattle.cnf.specs.declared.literals.Forced.{Forced as Entry}
 use Rattle.cnf.specs.declared.literals.Literal.{Literal}
 use Rattle.cnf.specs.Literals.{complement}
 use Rattle.cnf.specs.Clauses.{Clause, ◌∈◌}
@@ -13,11 +13,9 @@ use Rattle.drup.specs.Marks.{Marks, marked}
 use Rattle.drup.specs.Backward.{ConflictOver, NothingOver, gathered, Row, arcs, conflict_row, asked, fails}
 use Rattle.drup.specs.Box.{Checks, Stands}
 use Rattle.drup.specs.Reading.{marks_of}
-use Rattle.drup.proofs.Short.{asked_few}
-use Rattle.drup.proofs.Going.{at_first, past_strike, past_lemma, past_conflict, at_nothing, at_end}
-use Rattle.engine.specs.Meaning.{Meaning, On, text_of, with_mark, most}
-use Rattle.trial.specs.Trying.{counted_by}
-use Rattle.trial.proofs.Conflicts.{row_alive, row_few}
+use Rattle.drup.proofs.Trials.{row_alive, row_few}
+use Rattle.drup.proofs.Going.{at_first, past_strike, past_lemma, past_conflict, at_nothing}
+use Rattle.engine.specs.Meaning.{Meaning, On, text_of, with_mark, most, counted_by}
 use Rattle.job.specs.declared.rows.StepRow.{StepRow}
 use Rattle.job.specs.declared.rows.StepRow.TheVariants.{Lemma, Strike}
 use Rattle.job.specs.declared.jobs.reports.Tally.{Tally}
@@ -26,11 +24,11 @@ use Rattle.job.specs.History.{inputs_of, before, machine_of}
 use Rattle.job.specs.CheckLists.{Framed, row_start, arcs_of, recorded}
 use Rattle.job.specs.CheckShowing.{Shows, Holds}
 use Rattle.job.specs.CheckJudging.{Raisable, Passed, Failed}
-use Rattle.job.specs.CheckWalking.{BackLemma, Back, Roomy, Ready, verdict_in, Judges, TurnsDown}
+use Rattle.job.specs.CheckWalking.{BackLemma, Back, Roomy, Ready, verdict_in, TurnsDown}
 use Rattle.job.proofs.Histories.{length_steps}
 use Rattle.job.proofs.CheckFit.{Fit}
 use Rattle.job.proofs.CheckShown.{shown_conflict, shown_nothing, shown_gathered}
-use Rattle.job.proofs.CheckJudgement.{on_within, holds_after}
+use Rattle.job.proofs.CheckJudgement.{few_answers, holds_after}
 use Rattle.job.proofs.CheckStepping.{as_strike, as_lemma, its_number, its_range, shows_off, holds_off, shows_on, holds_on}
 use Rattle.job.proofs.CheckFraming.{texts_framed, rows_framed, clauses_framed, steps_framed, start_framed, framed_recorded, framed_self, holds_framed, inputs_framed, before_framed}
 use Rattle.job.proofs.CheckMarking.{mark_at, all_marked_lem}
@@ -52,8 +50,8 @@ pub record Going (s₀ : View) (i : ℕ) (s : View) (m : Meaning) (t : Tally) : 
   pub few_arcs : t.arcs + 513 * i ≤ 513 * s₀.taken
 
 -- at the last step
-pub going_first : (s : View) (m : Meaning) (t : Tally) → Ready s m t → Going s s.taken s m t
-going_first s m t r = record {
+pub going_first : (s : View) (m : Meaning) → Ready s m → Going s s.taken s m (record { lemmas = 0; arcs = 0 })
+going_first s m r = record {
   framed = framed_self s;
   rows = [];
   count = 0;
@@ -62,24 +60,10 @@ going_first s m t r = record {
   counted = r.uncounted;
   holds = r.holds;
   shows = r.shows;
-  all_lemmas = r.no_lemmas;
-  all_arcs = r.none_arcs;
-  few_lemmas = (let a = r.no_lemmas in omega arith);
-  few_arcs = (let a = r.none_arcs in omega arith);
-}
-
--- at the first step
-pub going_last : (s₀ s : View) (m : Meaning) (t : Tally) → Going s₀ 0 s m t → Judges s₀ s m t
-going_last s₀ s m t g = record {
-  rows = g.rows;
-  count = g.count;
-  checks = at_end (machine_of s₀) (verdict_in s g.rows) g.count g.stands;
-  arc_list = g.arc_list;
-  counted = g.counted;
-  holds = g.holds;
-  shows = g.shows;
-  all_lemmas = g.all_lemmas;
-  all_arcs = g.all_arcs;
+  all_lemmas = refl;
+  all_arcs = refl;
+  few_lemmas = omega arith;
+  few_arcs = omega arith;
 }
 
 shows_after : (m m' : Meaning) (inputs : List Clause) (steps : List Step) (k : ℕ) → m' ≡ counted_by k m → Shows m inputs steps → Shows m' inputs steps
@@ -176,7 +160,7 @@ module _ (s₀ : View) (o : Fit s₀) (rooms : Roomy s₀) (i : ℕ) (h : i < s�
         conflict = subst (λ (ls : List Literal). ConflictOver (On off) (text_of off) ls answers p.at) same_lemma p.conflict
 
         all_on : (k : ℕ) → k ∈ row → On off k
-        all_on = row_alive (text_of off) (text_of off) (On off) (map complement (text_in (texts s₀) n)) answers p.at conflict
+        all_on = row_alive (text_of off) (On off) (map complement (text_in (texts s₀) n)) answers p.at conflict
 
         in_range : (k : ℕ) → k ∈ row → (1 ≤ k) × (k ≤ s₀.clauses)
         in_range k x = holds.numbered k (all_on k x)
@@ -192,7 +176,7 @@ module _ (s₀ : View) (o : Fit s₀) (rooms : Roomy s₀) (i : ℕ) (h : i < s�
 
         short : length row ≤ suc s₀.variables
         short =
-            let a = asked_few s₀.variables (On off) (text_of off) (map complement (text_in (texts s₀) n)) (on_within off s₀ holds o) answers conflict.right in
+            let a = few_answers off s₀ holds o (map complement (text_in (texts s₀) n)) answers conflict.right in
             let b = row_few (text_of off) answers p.at in
             omega arith
 

@@ -1,16 +1,17 @@
 -- From an engine that shows a history to the model, and one step back.
-use Rattle.std.proofs.Common.{◌≡◌, ℕ, zero, suc, ◌-◌, ◌<◌, ◌≤◌, Bool, true, false, ◌||◌, eqb, List, [], ◌∷◌, length, get_or, set, None, sym, refl, ap, ◌∙◌, subst, inl, inr, true≢false, arith, length-set, get_or-set_other, get_or-set_same}
+use Rattle.std.proofs.Common.{◌≡◌, ℕ, zero, suc, ◌-◌, ◌≤◌, Bool, true, false, eqb, List, ◌∷◌, length, get_or, set, None, sym, refl, ap, ◌∙◌, subst, inl, inr, arith, length-set, get_or-set_other, get_or-set_same}
 use mathlib.Core.Bool.{false≢true}
 use Rattle.cnf.specs.declared.literals.Literal.{Literal}
-use Rattle.drup.specs.declared.Forced.{Forced as Entry}
+use Rattle.cnf.specs.declared.literals.Forced.{Forced as Entry}
 use Rattle.cnf.specs.Clauses.{Clause, ◌∈◌}
 use Rattle.drup.specs.History.{Step, learned, struck, table, next_number, text, is_struck, Live}
 use Rattle.drup.specs.Laws.{StrikesLive}
 use Rattle.drup.specs.Backward.{RightOver, ConflictOver, Conflict, NothingOver, Nothing, gathered}
-use Rattle.std.proofs.lemmas.Bool.{eqb-false, ne_eqb, eq-eqb, eqb-true, cases_Bool, le-ltb, or_parts}
+use Rattle.std.proofs.lemmas.Bool.{eqb-false, ne_eqb, eqb-true, cases_Bool, le-ltb, or_parts}
 use Rattle.drup.proofs.Transfer.{conflict_to, nothing_to, gathered_to}
+use Rattle.drup.proofs.Living.{never_yet}
 use Rattle.drup.proofs.Numbers.{text_older}
-use Rattle.engine.specs.Meaning.{Meaning, On, is_on, mark_in, text_of, with_mark, no_on, no_off}
+use Rattle.engine.specs.Meaning.{Meaning, On, mark_in, text_of, with_mark, no_off}
 use Rattle.job.specs.CheckShowing.{Shows}
 
 module _ (m : Meaning) (inputs : List Clause) (steps : List Step) (s : Shows m inputs steps) (assumed : List Literal) where
@@ -44,30 +45,9 @@ set_there marks (suc n) (suc k) b low d =
     let e : suc n - 1 ≡ n = omega arith in
     ap (λ (j : ℕ). get_or (set marks j b) k false) e ∙ get_or-set_other marks n k b false (λ p. d (ap suc p))
 
--- a number that was not entered was not struck
-pub not_yet_struck : (inputs : List Clause) (steps : List Step) (n : ℕ) → StrikesLive inputs steps → length (table inputs steps) < n → is_struck n steps ≡ false
-not_yet_struck inputs [] n l h = refl
-not_yet_struck inputs (learned c ∷ earlier) n l h = not_yet_struck inputs earlier n l (omega arith)
-not_yet_struck inputs (struck k ∷ earlier) n l h =
-    rw (ne_eqb n k (λ e. let x = l.0.entered in omega arith)) (not_yet_struck inputs earlier n l.1 h)
-
-module _ (m : Meaning) (inputs : List Clause) (earlier : List Step) (n : ℕ) (shut : m.opened ≡ false) where
+module _ (m : Meaning) (inputs : List Clause) (earlier : List Step) (n : ℕ) where
   -- a strike is taken back
   module _ (s : Shows m inputs (struck n ∷ earlier)) (live : Live inputs earlier n) where
-    was_off : is_on m n ≡ false
-    was_off =
-        elim (cases_Bool (is_on m n)) [
-          | inl e ↦ absurd (true≢false (sym (ap (λ (b : Bool). b || is_struck n earlier) (eq-eqb n n refl)) ∙ (s.on_live n e).unstruck))
-          | inr e ↦ e
-        ]
-
-    pub on_allowed : no_on m n ≡ None
-    on_allowed =
-        let a = live.numbered in
-        let b = live.entered in
-        let h = s.has_all in
-        rw (shut, ne_eqb n 0 (λ e. omega arith), le-ltb (length m.texts) n (omega arith), was_off) refl
-
     pub back_strike : Shows (with_mark n true m) inputs earlier
     back_strike =
         let a = live.numbered in
@@ -95,14 +75,12 @@ module _ (m : Meaning) (inputs : List Clause) (earlier : List Step) (n : ℕ) (s
         }
 
   -- a lemma is taken back
-  module _ (c : Clause) (s : Shows m inputs (learned c ∷ earlier)) (e : n ≡ next_number inputs earlier) (strikes : StrikesLive inputs earlier) where
-    was_live : Live inputs (learned c ∷ earlier) n
-    was_live = record { numbered = omega arith; entered = omega arith; unstruck = not_yet_struck inputs earlier n strikes (omega arith) }
-
-    pub off_allowed : no_off m n ≡ None
-    off_allowed =
+  module _ (c : Clause) (s : Shows m inputs (learned c ∷ earlier)) (e : n ≡ next_number inputs earlier) where
+    pub off_allowed : m.opened ≡ false → StrikesLive inputs earlier → no_off m n ≡ None
+    off_allowed shut strikes =
         let h = s.has_all in
-        rw (shut, ne_eqb n 0 (λ z. omega arith), le-ltb (length m.texts) n (omega arith), s.live_on n was_live) refl
+        let live : Live inputs (learned c ∷ earlier) n = record { numbered = omega arith; entered = omega arith; unstruck = never_yet inputs n earlier strikes (omega arith) } in
+        rw (shut, ne_eqb n 0 (λ z. omega arith), le-ltb (length m.texts) n (omega arith), s.live_on n live) refl
 
     pub back_lemma : Shows (with_mark n false m) inputs earlier
     back_lemma =

@@ -87,7 +87,7 @@ module _ (s : View) (o : Fit s) (i : ℕ) (h : i < s.taken) where
     module _ (m : Meaning) (holds : Holds m s) (shows : Shows m (inputs_of s) (before s (suc i))) where
       pub shows_off : Shows (with_mark n false m) (inputs_of s) (before s i)
       shows_off =
-          back_lemma m (inputs_of s) (before s i) n holds.shut (text_in (texts s) n) (subst (Shows m (inputs_of s)) as_lemma shows) its_number strikes_there
+          back_lemma m (inputs_of s) (before s i) n (text_in (texts s) n) (subst (Shows m (inputs_of s)) as_lemma shows) its_number
 
       pub holds_off : Holds (with_mark n false m) s
       holds_off = record {
@@ -103,7 +103,7 @@ module _ (s : View) (o : Fit s) (i : ℕ) (h : i < s.taken) where
 
   module _ (n : ℕ) (e : get_or s.steps i blank_step ≡ Strike n) (m : Meaning) (holds : Holds m s) (shows : Shows m (inputs_of s) (before s (suc i))) where
     pub shows_on : Shows (with_mark n true m) (inputs_of s) (before s i)
-    shows_on = back_strike m (inputs_of s) (before s i) n holds.shut (subst (Shows m (inputs_of s)) (as_strike n e) shows) (struck_live n e)
+    shows_on = back_strike m (inputs_of s) (before s i) n (subst (Shows m (inputs_of s)) (as_strike n e) shows) (struck_live n e)
 
     pub holds_on : Holds (with_mark n true m) s
     holds_on = record {

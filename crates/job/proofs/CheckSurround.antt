@@ -1,23 +1,23 @@
 -- Filling the engine, turning on what is live, and turning all off.
-use Rattle.std.proofs.Common.{◌≡◌, ℕ, zero, suc, ◌+◌, ◌-◌, ◌<◌, ◌≤◌, Bool, true, false, not, eqb, ltb, List, [], ◌∷◌, ◌++◌, length, get_or, take, set, replicate, Some, None, sym, refl, ap, ◌∙◌, subst, inl, inr, add-one, arith, length-set, get_or-set_other, get_or-set_same}
+use Rattle.std.proofs.Common.{◌≡◌, ℕ, zero, suc, ◌+◌, ◌-◌, ◌<◌, ◌≤◌, Bool, true, false, not, ltb, List, [], ◌∷◌, ◌++◌, length, get_or, take, set, replicate, Some, None, Ok, Err, Result, sym, refl, ap, ◌∙◌, subst, inl, inr, add-one, arith, length-set, get_or-set_other, get_or-set_same, is_none}
 use mathlib.Core.Bool.{false≢true}
-use Rattle.std.proofs.lemmas.List.{take_more, take_all, set-get_or, ext_get_or, length-replicate, length-take-le, length_push}
-use Rattle.std.proofs.lemmas.Bool.{cases_Bool, ne_eqb, le-ltb, lt-leb, ltb-true, ltb-false, not-true}
+use Rattle.std.proofs.lemmas.List.{take_more, take_all, set-get_or, ext_get_or, length-replicate, length-take-le, length_push, get_or-replicate}
+use Rattle.std.proofs.lemmas.Bool.{cases_Bool, le-ltb, lt-leb, ltb-true, ltb-false, not-true}
 use Rattle.cnf.specs.Clauses.{Clause, IsClause, literals}
 use Rattle.cnf.specs.Arranging.{arranged}
 use Rattle.cnf.proofs.Arranging.{clause_beyond, clause_twice, clause_arranged}
 use Rattle.drup.specs.History.{is_struck, Live}
 use Rattle.drup.proofs.Numbers.{at_most}
-use Rattle.engine.specs.Meaning.{Meaning, On, is_on, mark_in, with_on, with_mark, with_text, no_text, no_put, no_on, no_off, rule, first_broken}
+use Rattle.engine.specs.Meaning.{Meaning, On, is_on, mark_in, with_on, with_mark, with_text, no_put, no_off, TurnsOff}
 use Rattle.engine.specs.Meaning.{text_in as text_from}
 use Rattle.engine.specs.declared.faults.EngineFault.{EngineFault}
-use Rattle.engine.specs.declared.faults.EngineFault.TheVariants.{TrialOpen, NoSuchText, AlreadyOn}
 use Rattle.engine.proofs.Refusing.{off_done}
-use Rattle.trial.proofs.Allowed.{has_text, off_allowed}
+use Rattle.engine.proofs.Allowed.{has_text}
 use Rattle.job.specs.View.{View, blank_row, text_in, texts}
 use Rattle.job.specs.History.{down_from, inputs_of, steps_of}
 use Rattle.job.specs.CheckFrame.{filled, Large, Lit, Dark}
 use Rattle.job.specs.CheckShowing.{Shows, Holds}
+use Rattle.std.proofs.lemmas.Grind.{replicate_next}
 use Rattle.job.proofs.CheckFit.{Fit}
 
 -- a clause with its number, as the job and as an engine say it
@@ -32,7 +32,7 @@ pub wider : (low high : ℕ) (c : Clause) → low ≤ high → IsClause low c �
 wider low high c h is = record { rising = is.rising; within = λ k i. let w = is.within k i in (w.0, omega (arith, w.1)) }
 
 -- a number that is off cannot be turned off, and need not be
-pub off_already : (m : Meaning) (n : ℕ) (f : EngineFault) → m.opened ≡ false → 1 ≤ n → n ≤ length m.texts → no_off m n ≡ Some f → m ≡ with_mark n false m
+off_already : (m : Meaning) (n : ℕ) (f : EngineFault) → m.opened ≡ false → 1 ≤ n → n ≤ length m.texts → no_off m n ≡ Some f → m ≡ with_mark n false m
 off_already m n f shut low high e =
     elim (cases_Bool (is_on m n)) [
       | inl on ↦
@@ -47,6 +47,11 @@ off_already m n f shut low high e =
     same (suc k) l o =
         let e : suc k - 1 ≡ k = omega arith in
         ap (λ (j : ℕ). set m.on j false) e ∙ ap (set m.on k) (sym o) ∙ set-get_or m.on k false
+
+pub off_either : (m m' : Meaning) (n : ℕ) (r : Result (Unit {0}) EngineFault) → m.opened ≡ false → 1 ≤ n → n ≤ length m.texts → TurnsOff m n r m'
+    → m' ≡ with_mark n false m
+off_either m m' n (Ok done) shut low high does = does.1
+off_either m m' n (Err f) shut low high does = does.1 ∙ off_already m n f shut low high does.0
 
 literals_push : (ts : List Clause) (c : Clause) → literals (ts ++ c ∷ []) ≡ literals ts + length c
 literals_push [] c = omega arith
@@ -74,12 +79,12 @@ module _ (s : View) (o : Fit s) where
       ∙ o.stored
 
   module _ (m : Meaning) (large : Large s m) (i : ℕ) (h : i < s.clauses) (before : Meaning) (t : Clause)
-      (b : before ≡ filled (take i (texts s)) m) (e : t ≡ text_in (texts s) (i + 1)) where
+      (b : before ≡ filled (take i (texts s)) m) (n : ℕ) (up : n ≡ suc i) (e : t ≡ text_in (texts s) n) where
     its_text : t ≡ get_or (texts s) i []
-    its_text = e ∙ ap (text_in (texts s)) (add-one i)
+    its_text = e ∙ ap (text_in (texts s)) up
 
     is_clause : IsClause 512 t
-    is_clause = subst (IsClause 512) (sym e) (wider s.variables 512 (text_in (texts s) (i + 1)) o.range (o.clause (i + 1) (omega arith) (omega arith)))
+    is_clause = subst (IsClause 512) (sym e) (wider s.variables 512 (text_in (texts s) n) o.range (o.clause n (omega arith) (omega arith)))
 
     pub put_allowed : no_put before t ≡ None
     put_allowed =
@@ -93,52 +98,24 @@ module _ (s : View) (o : Fit s) where
         ap (λ (n : Meaning). no_put n t) b
         ∙ rw (clause_beyond 512 t is_clause, clause_twice 512 t is_clause, lt-leb m.text_limit (length (take i (texts s))) (omega arith), le-ltb m.literal_limit (literals (take i (texts s)) + length t) (omega arith)) refl
 
-    pub put_more : (after : Meaning) → after ≡ with_text (arranged t) before → after ≡ filled (take (i + 1) (texts s)) m
-    put_more after a =
+    pub put_more : (k : ℕ) → k ≡ i + 1 → (after : Meaning) → after ≡ with_text (arranged t) before → after ≡ filled (take k (texts s)) m
+    put_more k one after a =
         let l = o.all_texts in
         let p : take i (texts s) ++ t ∷ [] ≡ take (i + 1) (texts s) =
         ap (λ (x : Clause). take i (texts s) ++ x ∷ []) its_text ∙ sym (take_more (texts s) i [] (omega arith)) in
         let q : replicate (length (take i (texts s))) false ++ false ∷ [] ≡ replicate (length (take (i + 1) (texts s))) false =
-        one_longer (length (take i (texts s))) ∙ ap (λ (k : ℕ). replicate k false) (sym (add-one (length (take i (texts s)))) ∙ sym (length_push (take i (texts s)) t) ∙ ap length p) in
+        sym (replicate_next (length (take i (texts s))) false) ∙ ap (λ (k : ℕ). replicate k false) (sym (length_push (take i (texts s)) t) ∙ ap length p) in
         a ∙ ap (λ (c : Clause). with_text c before) (clause_arranged 512 t is_clause) ∙ ap (with_text t) b
         ∙ (λ k. record { texts = p k; on = q k; trail = []; opened = false; answers = 0; text_limit = m.text_limit; literal_limit = m.literal_limit })
-      where
-        one_longer : (k : ℕ) → replicate k false ++ false ∷ [] ≡ replicate (suc k) false
-        one_longer zero = refl
-        one_longer (suc k) = ap (λ (x : List Bool). false ∷ x) (one_longer k)
+        ∙ ap (λ (j : ℕ). filled (take j (texts s)) m) (sym one)
 
--- one mark is set to what it should be
-module _ (s : View) (m : Meaning) (k : ℕ) (before : Meaning) (g : Lit s m k before) (h : k < s.clauses) where
-  pub lit_allowed : m.opened ≡ false → length m.texts ≡ s.clauses → no_on before (suc k) ≡ None
-  lit_allowed shut l =
-      let a : before.opened ≡ false = ap (λ (x : Meaning). x.opened) g.but_for ∙ shut in
-      let b : length before.texts ≡ s.clauses = ap (λ (x : Meaning). length x.texts) g.but_for ∙ l in
-      off_allowed before (suc k) (omega arith) (omega arith) a (g.above k (omega arith))
-
-  pub lit_more : (after : Meaning) → after ≡ with_on (set before.on k (eqb (get_or s.rows k blank_row).struck 0)) before → Lit s m (k + 1) after
-  lit_more after a =
-      let b = eqb (get_or s.rows k blank_row).struck 0 in
-      let l = g.level in
-      subst (Lit s m (k + 1)) (sym a)
-      (record {
-        but_for = ap (with_on (set before.on k b)) g.but_for;
-        level = length-set before.on k b ∙ g.level;
-        below = λ j x.
-            elim (at_most (suc j) k (omega arith)) [
-              | inl e ↦
-                  let q : j ≡ k = omega arith in
-                  ap (λ (i : ℕ). get_or (set before.on k b) i false) q ∙ get_or-set_same before.on k b false (omega arith) ∙ ap (λ (i : ℕ). eqb (get_or s.rows i blank_row).struck 0) (sym q)
-              | inr y ↦ get_or-set_other before.on k j b false (λ e. omega arith) ∙ g.below j y
-            ];
-        above = λ j x. get_or-set_other before.on k j b false (λ e. omega arith) ∙ g.above j (omega arith);
-      })
-
+-- one mark more is off
 module _ (c : ℕ) (m : Meaning) (k : ℕ) (before : Meaning) (g : Dark c m k before) where
-  pub dark_more : k < c → (after : Meaning) → after ≡ with_on (set before.on ((k + 1) - 1) false) before → Dark c m (k + 1) after
-  dark_more h after a =
+  pub dark_more : (n : ℕ) → n ≡ k + 1 → k < c → (after : Meaning) → after ≡ with_mark n false before → Dark c m n after
+  dark_more n one h after a =
       let l = g.level in
-      let p : (k + 1) - 1 ≡ k = omega arith in
-      subst (Dark c m (k + 1)) (sym (a ∙ ap (λ (j : ℕ). with_on (set before.on j false) before) p))
+      let p : n - 1 ≡ k = omega arith in
+      subst (Dark c m n) (sym (a ∙ ap (λ (j : ℕ). with_on (set before.on j false) before) p))
       (record {
         but_for = ap (with_on (set before.on k false)) g.but_for;
         level = length-set before.on k false ∙ g.level;
@@ -157,57 +134,12 @@ module _ (c : ℕ) (m : Meaning) (k : ℕ) (before : Meaning) (g : Dark c m k be
       g.but_for
       ∙ ap (λ (o : List Bool). with_on o m)
       (ext_get_or false before.on (replicate c false) (g.level ∙ sym (length-replicate c false))
-      (λ i x. g.below i (omega arith) ∙ sym (none c i)))
-    where
-      none : (c i : ℕ) → get_or (replicate c false) i false ≡ false
-      none zero i = refl
-      none (suc c) zero = refl
-      none (suc c) (suc i) = none c i
-
-  pub dark_shut : m.opened ≡ false → before.opened ≡ false
-  dark_shut e = ap (λ (x : Meaning). x.opened) g.but_for ∙ e
-
-  pub dark_texts : length m.texts ≡ c → length before.texts ≡ c
-  dark_texts e = ap (λ (x : Meaning). length x.texts) g.but_for ∙ e
-
--- where the last rule could be tried, it was not broken
-not_broken : (a b d : Bool) (f g h : EngineFault) → first_broken (rule a f ∷ rule b g ∷ rule d h ∷ []) ≡ None → d ≡ false
-not_broken true b d f g h e = let z : ◌≡◌ {A = ℕ} 0 1 = cc in absurd (omega arith)
-not_broken false true d f g h e = let z : ◌≡◌ {A = ℕ} 0 1 = cc in absurd (omega arith)
-not_broken false false true f g h e = let z : ◌≡◌ {A = ℕ} 0 1 = cc in absurd (omega arith)
-not_broken false false false f g h e = refl
-
--- a struck clause stays off
-pub lit_skip : (m : Meaning) (i struck : ℕ) → no_on m (suc i) ≡ None → (struck ≡ 0 → ⊥) → m ≡ with_on (set m.on i (eqb struck 0)) m
-lit_skip m i struck e d =
-    let off : is_on m (suc i) ≡ false = not_broken m.opened (no_text m (suc i)) (is_on m (suc i)) TrialOpen NoSuchText AlreadyOn e in
-    ap (λ (o : List Bool). with_on o m) (sym (ap (set m.on i) (ne_eqb struck 0 d ∙ sym off) ∙ set-get_or m.on i false))
-
-none_there : (k i : ℕ) → get_or (replicate k false) i false ≡ false
-none_there zero i = refl
-none_there (suc k) zero = refl
-none_there (suc k) (suc i) = none_there k i
-
--- an engine that was just filled
-module _ (s : View) (o : Fit s) (m₀ m : Meaning) (e : m ≡ filled (texts s) m₀) where
-  pub lit_start : Lit s m 0 m
-  lit_start = record {
-    but_for = refl;
-    level = ap (λ (x : Meaning). length x.on) e ∙ length-replicate (length (texts s)) false ∙ o.all_texts;
-    below = λ j h. absurd (omega arith);
-    above = λ j h. ap (λ (x : Meaning). get_or x.on j false) e ∙ none_there (length (texts s)) j;
-  }
-
-  pub filled_shut : m.opened ≡ false
-  filled_shut = ap (λ (x : Meaning). x.opened) e
-
-  pub filled_texts : length m.texts ≡ s.clauses
-  filled_texts = ap (λ (x : Meaning). length x.texts) e ∙ o.all_texts
+      (λ i x. g.below i (omega arith) ∙ sym (get_or-replicate c i false false (omega arith))))
 
 module _ (s : View) (o : Fit s) where
   -- what is live is on
   module _ (m₀ m : Meaning) (g : Lit s (filled (texts s) m₀) s.clauses m) where
-    on_below : (n : ℕ) → On m n → (k : ℕ) × (n ≡ suc k) × (k < s.clauses) × (eqb (get_or s.rows k blank_row).struck 0 ≡ true)
+    on_below : (n : ℕ) → On m n → (k : ℕ) × (n ≡ suc k) × (k < s.clauses) × (is_none (get_or s.rows k blank_row).struck ≡ true)
     on_below zero e = absurd (false≢true e)
     on_below (suc k) e =
         elim (cases_Bool (ltb k s.clauses)) [

@@ -14,7 +14,8 @@ use Rattle.job.specs.declared.rows.StepRow.{StepRow}
 use Rattle.job.specs.declared.rows.StepRow.TheVariants.{Lemma}
 use Rattle.job.specs.View.{View, blank_row, blank_step, texts_in, text_in, texts}
 use Rattle.job.specs.History.{down_from, step_of, steps_from, inputs_of, before, steps_of}
-use Rattle.job.specs.Sound.{laid_to, Laid, Rising, is_next, Ordered, Sound}
+use Rattle.job.specs.Records.{InOrder}
+use Rattle.job.specs.Sound.{step_or_none, laid_to, Laid, Rising, is_next, Ordered, Sound}
 use Rattle.job.specs.Calls.{new_row, with_input, with_lemma}
 use Rattle.job.proofs.Histories.{length_down, length_steps, strikes_live, steps_most, strike_none}
 use Rattle.job.proofs.Texts.{length_texts, laid_same, texts_entered, text_older, text_newest}
@@ -98,11 +99,10 @@ module _ (s : View) (o : Sound s) (c : Clause) (entered : ℕ) (place : s.clause
       let a = o.rooms.0 in
       let room : s.clauses < length s.rows = omega arith in
       below_more
-      (λ k. 0 < (get_or (set s.rows s.clauses (new_row s c entered)) k blank_row).struck
-      → (get_or (set s.rows s.clauses (new_row s c entered)) k blank_row).entered < (get_or (set s.rows s.clauses (new_row s c entered)) k blank_row).struck)
+      (λ k. InOrder (get_or (set s.rows s.clauses (new_row s c entered)) k blank_row))
       s.clauses
       (λ k h. let ne : k ≢ s.clauses = omega arith in rw get_or-set_other (o.ordered k h))
-      (rw get_or-set_same (λ z. absurd (omega arith)))
+      (rw get_or-set_same (λ step e. let z : ◌≡◌ {A = ℕ} 0 1 = cc in absurd (omega arith)))
 
 -- an input clause
 module _ (s : View) (o : Sound s) (c : Clause) (first : s.taken ≡ 0) (place : s.clauses < s.places) (fits : s.used + length c ≤ s.room) where
@@ -155,15 +155,15 @@ module _ (s : View) (o : Sound s) (c : Clause) (first : s.taken ≡ 0) (place : 
         dated =
             below_more
             (λ k. ((get_or (set s.rows s.clauses (new_row s c 0)) k blank_row).entered ≡ entry_of (inputs_of (with_input true s c)) (steps_of (with_input true s c)) (suc k))
-            × ((get_or (set s.rows s.clauses (new_row s c 0)) k blank_row).struck ≡ strike_of (steps_of (with_input true s c)) (suc k)))
+            × ((get_or (set s.rows s.clauses (new_row s c 0)) k blank_row).struck ≡ step_or_none (strike_of (steps_of (with_input true s c)) (suc k))))
             s.clauses
             (λ k h.
             let other = get_or-set_other s.rows s.clauses k (new_row s c 0) blank_row (λ at. omega arith) in
             let d = o.dated k h in
             let m = dated_input (inputs_of s) (inputs_of (with_input true s c)) (steps_of s) (steps_of (with_input true s c)) (suc k) none' none in
-            (ap (λ (r : ClauseRow). r.entered) other ∙ d.0 ∙ m.0, ap (λ (r : ClauseRow). r.struck) other ∙ d.1 ∙ m.1))
+            (ap (λ (r : ClauseRow). r.entered) other ∙ d.0 ∙ m.0, ap (λ (r : ClauseRow). r.struck) other ∙ d.1 ∙ ap step_or_none m.1))
             (let u = undated (inputs_of (with_input true s c)) (steps_of (with_input true s c)) (suc s.clauses) none in
-            (ap (λ (r : ClauseRow). r.entered) row ∙ u.0, ap (λ (r : ClauseRow). r.struck) row ∙ u.1));
+            (ap (λ (r : ClauseRow). r.entered) row ∙ u.0, ap (λ (r : ClauseRow). r.struck) row ∙ ap step_or_none u.1));
         ordered = ordered_now s o c 0 place fits;
       }
 
@@ -255,14 +255,14 @@ module _ (s : View) (o : Sound s) (c : Clause) (place : s.clauses < s.places) (f
         dated =
             below_more
             (λ k. ((get_or (set s.rows s.clauses (new_row s c (s.taken + 1))) k blank_row).entered ≡ entry_of (inputs_of (with_lemma true s c)) (steps_of (with_lemma true s c)) (suc k))
-            × ((get_or (set s.rows s.clauses (new_row s c (s.taken + 1))) k blank_row).struck ≡ strike_of (steps_of (with_lemma true s c)) (suc k)))
+            × ((get_or (set s.rows s.clauses (new_row s c (s.taken + 1))) k blank_row).struck ≡ step_or_none (strike_of (steps_of (with_lemma true s c)) (suc k))))
             s.clauses
             (λ k h.
             let other = get_or-set_other s.rows s.clauses k (new_row s c (s.taken + 1)) blank_row (λ at. omega arith) in
             let was = o.dated k h in
             let m = dated_lemma (inputs_of s) (inputs_of (with_lemma true s c)) (steps_of s) (steps_of (with_lemma true s c)) c inputs_lemma steps_lemma k (omega arith) in
-            (ap (λ (r : ClauseRow). r.entered) other ∙ was.0 ∙ m.0, ap (λ (r : ClauseRow). r.struck) other ∙ was.1 ∙ m.1))
+            (ap (λ (r : ClauseRow). r.entered) other ∙ was.0 ∙ m.0, ap (λ (r : ClauseRow). r.struck) other ∙ was.1 ∙ ap step_or_none m.1))
             (let u = dated_new (inputs_of s) (inputs_of (with_lemma true s c)) (steps_of s) (steps_of (with_lemma true s c)) c inputs_lemma steps_lemma strikes_so_far s.clauses s.taken d (sym all) in
-            (ap (λ (r : ClauseRow). r.entered) row ∙ u.0, ap (λ (r : ClauseRow). r.struck) row ∙ u.1));
+            (ap (λ (r : ClauseRow). r.entered) row ∙ u.0, ap (λ (r : ClauseRow). r.struck) row ∙ ap step_or_none u.1));
         ordered = ordered_now s o c (s.taken + 1) place fits;
       }

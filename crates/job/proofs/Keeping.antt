@@ -1,20 +1,22 @@
 -- A job's facts of its view, and which writes leave them.
-use Rattle.std.proofs.Common.{◌≡◌, ℕ, suc, ◌<◌, ◌≤◌, Bool, true, false, List, length, get_or, set, sym, refl, ap, ◌∙◌, subst, arith, get_or-set_other}
+use Rattle.std.proofs.Common.{◌≡◌, ℕ, suc, ◌+◌, ◌<◌, ◌≤◌, true, false, List, length, get_or, set, sym, refl, ap, ◌∙◌, subst, arith, get_or-set_other}
+use lib.Seq.{paste}
 use Rattle.std.proofs.lemmas.List.{length-set}
+use Rattle.std.proofs.lemmas.List.Edits.{length-paste}
 use Rattle.cnf.specs.declared.literals.Literal.{Literal}
 use Rattle.cnf.specs.Clauses.{Clause}
 use Rattle.drup.specs.History.{Step, table, ended}
 use Rattle.drup.specs.Laws.{entry_of, strike_of}
-use Rattle.drup.specs.Forward.{Machine}
 use Rattle.job.specs.declared.rows.ClauseRow.{ClauseRow}
 use Rattle.job.specs.declared.rows.StepRow.{StepRow}
 use Rattle.job.specs.declared.jobs.Job.{Job}
-use Rattle.job.specs.View.{View, blank_row, blank_step, clause_at, text_in, texts, with_rows, with_step_rows, with_lits, with_arcs, with_judged, bare}
-use Rattle.job.specs.History.{down_from, steps_from, inputs_of, before, machine_of}
-use Rattle.job.specs.Sound.{Rising, Complete, is_next, Numbered, Unended, Dated, Sound}
+use Rattle.job.specs.View.{View, blank_row, blank_step, clause_at, text_in, texts, with_rows, with_step_rows, with_lits, bare}
+use Rattle.job.specs.History.{down_from, steps_from, inputs_of, before}
+use Rattle.job.specs.Sound.{Range, Rooms, Counts, Laid, Rising, Complete, is_next, Numbered, Unended, step_or_none, Dated, Ordered, Sound}
+use Rattle.job.specs.Calls.{laying}
 use Rattle.job.specs.Seen.{view}
 use Rattle.job.proofs.Histories.{down_same, steps_same, table_up, lemma_range, length_down}
-use Rattle.job.proofs.Texts.{laid_within, laid_same, texts_same, clause_beyond}
+use Rattle.job.proofs.Texts.{laid_within, laid_same, texts_same, clause_kept}
 
 -- of each job
 pub sound : (j : Job) → Sound (view j)
@@ -29,6 +31,35 @@ sound j = record {
   unended = j.unended;
   dated = j.dated;
   ordered = j.ordered;
+}
+
+-- and what a job with this view has to show
+abbrev pub Held : View → Type 0
+Held s = record {
+  range : Range s.variables s.places s.room;
+  rooms : Rooms s.places s.room s.rows s.steps s.lits;
+  counts : Counts s.places s.room s.inputs s.clauses s.taken s.used;
+  laid : Laid s.rows s.clauses s.used;
+  rising : Rising s.variables (texts s) s.clauses;
+  complete : Complete (texts s) s.inputs s.steps s.taken s.clauses;
+  numbered : Numbered (texts s) s.inputs s.steps s.taken;
+  unended : Unended (texts s) s.steps s.taken;
+  dated : Dated s.rows (texts s) s.inputs s.steps s.taken s.clauses;
+  ordered : Ordered s.rows s.clauses;
+}
+
+pub held : (s : View) → Sound s → Held s
+held s o = record {
+  range = o.range;
+  rooms = o.rooms;
+  counts = o.counts;
+  laid = o.laid;
+  rising = o.rising;
+  complete = o.complete;
+  numbered = o.numbered;
+  unended = o.unended;
+  dated = o.dated;
+  ordered = o.ordered;
 }
 
 -- other literals behind those in use
@@ -47,18 +78,16 @@ sound_lits s lits e same o = record {
   ordered = o.ordered;
 }
 
--- a literal is written behind those in use
-pub texts_beyond : (s : View) (p : ℕ) (l : Literal) → s.used ≤ p → p < length s.lits → Sound s
-    → texts (with_lits (set s.lits p l) s) ≡ texts s
-texts_beyond s p l above below o =
+-- a clause is written behind those in use
+pub sound_laid : (s : View) (c : Clause) → s.used + length c ≤ s.room → Sound s → Sound (laying s c (length c))
+sound_laid s c fits o =
     let room : s.clauses ≤ length s.rows = (let a = o.rooms.0 in let b = o.counts.1 in omega arith) in
-    texts_same s.rows s.rows (set s.lits p l) s.lits s.clauses room room
-    (λ k h.
-    let w = laid_within s.rows s.clauses s.used o.laid k h in
-    clause_beyond s.lits p l (get_or s.rows k blank_row) (omega arith) below)
-
-pub sound_beyond : (s : View) (p : ℕ) (l : Literal) → s.used ≤ p → p < length s.lits → Sound s → Sound (with_lits (set s.lits p l) s)
-sound_beyond s p l above below o = sound_lits s (set s.lits p l) (length-set s.lits p l) (texts_beyond s p l above below o) o
+    let wide : s.used + length c ≤ length s.lits = (let a = o.rooms.2 in omega arith) in
+    let lits = paste s.lits s.used c (length c) in
+    sound_lits s lits (length-paste s.lits s.used c (length c) wide (omega arith))
+    (texts_same s.rows s.rows lits s.lits s.clauses room room
+    (λ k h. clause_kept s.lits s.used c wide (get_or s.rows k blank_row) (laid_within s.rows s.clauses s.used o.laid k h)))
+    o
 
 -- rows that differ only in their marks, or behind those in use
 module _ (s : View) (rows : List ClauseRow) (e : length rows ≡ length s.rows)
@@ -86,61 +115,18 @@ module _ (s : View) (rows : List ClauseRow) (e : length rows ≡ length s.rows)
           ap (λ (row : ClauseRow). row.entered) (same k h) ∙ (o.dated k h).0,
           ap (λ (row : ClauseRow). row.struck) (same k h) ∙ (o.dated k h).1,
         ));
-    ordered = λ k h some.
+    ordered = λ k h step e.
         let a = ap (λ (row : ClauseRow). row.struck) (same k h) in
         let b = ap (λ (row : ClauseRow). row.entered) (same k h) in
-        let c = o.ordered k h (omega arith) in
+        let c = o.ordered k h step (sym a ∙ e) in
         omega arith;
   }
-
-  -- and the machine stays
-  pub machine_marked : machine_of (with_rows rows s) ≡ machine_of s
-  machine_marked =
-      ap (λ (ts : List Clause). machine_read s.variables s.places s.room ts s.inputs s.steps s.taken) texts_marked
-    where
-      machine_read : (variables places room : ℕ) → List Clause → (inputs : ℕ) → List StepRow → (taken : ℕ) → Machine
-      machine_read variables places room ts inputs steps taken = record {
-        variables = variables;
-        clause_places = places;
-        literal_places = room;
-        inputs = down_from (text_in ts) inputs;
-        steps = steps_from (text_in ts) steps taken;
-      }
 
 -- a row is written behind those in use
 pub sound_behind : (s : View) (p : ℕ) (row : ClauseRow) → s.clauses ≤ p → Sound s → Sound (with_rows (set s.rows p row) s)
 sound_behind s p row above o =
     sound_rows s (set s.rows p row) (length-set s.rows p row)
     (λ k h. ap bare (get_or-set_other s.rows p k row blank_row (λ at. omega arith))) o
-
--- other arcs, and another judgement
-pub sound_arcs : (s : View) (arcs : List ℕ) → Sound s → Sound (with_arcs arcs s)
-sound_arcs s arcs o = record {
-  range = o.range;
-  rooms = o.rooms;
-  counts = o.counts;
-  laid = o.laid;
-  rising = o.rising;
-  complete = o.complete;
-  numbered = o.numbered;
-  unended = o.unended;
-  dated = o.dated;
-  ordered = o.ordered;
-}
-
-pub sound_judged : (s : View) (judged : Bool) → Sound s → Sound (with_judged judged s)
-sound_judged s judged o = record {
-  range = o.range;
-  rooms = o.rooms;
-  counts = o.counts;
-  laid = o.laid;
-  rising = o.rising;
-  complete = o.complete;
-  numbered = o.numbered;
-  unended = o.unended;
-  dated = o.dated;
-  ordered = o.ordered;
-}
 
 -- a history up to a step, told by another text that has the same clauses so far, and by rows with the same steps so far
 module _ (s : View) (o : Sound s) (last : ℕ) (h : last ≤ s.taken) (text : ℕ → Clause)
@@ -188,7 +174,7 @@ sound_next s row o =
       unended = same_unended s o s.taken (omega arith) (text_in (texts s)) (λ n low high. refl) (set s.steps s.taken row) kept;
       dated = λ k h. (
         (o.dated k h).0 ∙ ap (λ (e : List Step). entry_of (inputs_of s) e (suc k)) (sym all),
-        (o.dated k h).1 ∙ ap (λ (e : List Step). strike_of e (suc k)) (sym all),
+        (o.dated k h).1 ∙ ap (λ (e : List Step). step_or_none (strike_of e (suc k))) (sym all),
       );
       ordered = o.ordered;
     }

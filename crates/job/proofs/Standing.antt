@@ -1,58 +1,24 @@
 -- What a sound job's machine is like.
-use Rattle.std.proofs.Common.{◌≡◌, ℕ, zero, suc, ◌+◌, ◌-◌, ◌<◌, ◌≤◌, Bool, true, false, cond, not, ◌&&◌, ◌||◌, eqb, ltb, leb, List, [], ◌∷◌, length, get_or, sym, refl, ap, ◌∙◌, subst, inl, inr, arith}
+use Rattle.std.proofs.Common.{◌≡◌, ℕ, zero, suc, ◌+◌, ◌-◌, ◌<◌, ◌≤◌, Bool, true, false, cond, not, ◌&&◌, ◌||◌, ltb, leb, List, [], ◌∷◌, length, get_or, sym, refl, ap, ◌∙◌, subst, inl, inr, arith, is_none}
 use mathlib.Core.List.Memᴰ
-use mathlib.Core.List.Memᴰ.{head as here}
-use mathlib.Core.List.Memᴰ.{tail as there}
-use Rattle.std.proofs.lemmas.Bool.{and_parts, ltb-true, leb-true, lt-ltb, le-ltb, cases_lt, cases_Bool, eq-eqb, ne_eqb, not-true, and_from, le-leb}
+use Rattle.std.proofs.lemmas.Bool.{and_parts, lt-ltb, le-ltb, cases_lt, cases_Bool, not-true}
 use Rattle.cnf.specs.declared.literals.Literal.{Literal}
-use Rattle.cnf.specs.Clauses.{Clause, ◌∈◌, Rising as IsRising, IsClause, literals}
+use Rattle.cnf.specs.Clauses.{Clause, ◌∈◌, IsClause, literals}
 use Rattle.cnf.specs.Arranging.{arranged}
-use Rattle.cnf.specs.Ascending.{ascending}
 use Rattle.cnf.proofs.Arranging.{all_cons, arranged_length}
-use Rattle.drup.specs.History.{Step, learned, struck, table, next_number, text, is_struck, begun, lemmas, same_clause, live_copy, Live}
+use Rattle.cnf.proofs.Rising.{ascending_clause}
+use Rattle.drup.specs.History.{Step, table, text, is_struck, begun, same_clause, live_copy, Live}
 use Rattle.drup.specs.Forward.{full}
 use Rattle.drup.specs.WellFormed.{WellFormed}
-use Rattle.drup.specs.Laws.{StrikesLive}
+use Rattle.drup.specs.Laws.{StrikesLive, strike_of}
 use Rattle.drup.proofs.Numbers.{text_newest, text_older, at_most}
 use Rattle.job.specs.declared.rows.StepRow.{StepRow}
-use Rattle.job.specs.declared.rows.StepRow.TheVariants.{Lemma, Strike}
-use Rattle.job.specs.View.{View, blank_row, blank_step, text_in, texts}
-use Rattle.job.specs.History.{down_from, step_of, steps_from, inputs_of, before, steps_of, machine_of}
-use Rattle.job.specs.Sound.{Sound}
+use Rattle.job.specs.View.{View, blank_row, text_in, texts}
+use Rattle.job.specs.History.{down_from, steps_from, inputs_of, steps_of, machine_of}
+use Rattle.job.specs.Sound.{step_or_none, Sound}
 use Rattle.job.specs.Calls.{is_full, copy_in}
-use Rattle.job.proofs.Histories.{length_down, table_down, strikes_live, only_last, strike_none, none_strike, next_lemma, next_strike, lemma_range, inputs_within}
+use Rattle.job.proofs.Histories.{length_down, table_down, strikes_live, only_last, strike_none, none_strike}
 use Rattle.job.proofs.Texts.{laid_literals}
-
--- the test of a clause is right
-above_all : (low high : ℕ) (c : Clause) → ascending low high c ≡ true → (k : Literal) → k ∈ c → (low < k.variable) × (k.variable ≤ high)
-above_all low high [] e k m = absurd (Memᴰ.not-nil m)
-above_all low high (l ∷ c) e k m =
-    let p = and_parts (ltb low l.variable && leb l.variable high) (ascending l.variable high c) e in
-    let q = and_parts (ltb low l.variable) (leb l.variable high) p.0 in
-    let a = ltb-true low l.variable q.0 in
-    let b = leb-true l.variable high q.1 in
-    all_cons (λ k. (low < k.variable) × (k.variable ≤ high)) (a, b)
-    (λ j n. let r = above_all l.variable high c p.1 j n in (omega arith, r.1)) k m
-
-rises : (low high : ℕ) (c : Clause) → ascending low high c ≡ true → IsRising c
-rises low high [] e = tt
-rises low high (l ∷ c) e =
-    let p = and_parts (ltb low l.variable && leb l.variable high) (ascending l.variable high c) e in
-    ((λ k m. (above_all l.variable high c p.1 k m).0), rises l.variable high c p.1)
-
-pub ascending_clause : (high : ℕ) (c : Clause) → ascending 0 high c ≡ true → IsClause high c
-ascending_clause high c e =
-    record { rising = rises 0 high c e; within = λ k m. let r = above_all 0 high c e k m in (omega arith, r.1) }
-
-ascends : (low high : ℕ) (c : Clause) → IsRising c → ((k : Literal) → k ∈ c → (low < k.variable) × (k.variable ≤ high)) → ascending low high c ≡ true
-ascends low high [] r w = refl
-ascends low high (l ∷ c) r w =
-    let h = w l (here refl) in
-    and_from _ _ (and_from _ _ (lt-ltb low l.variable h.0) (le-leb l.variable high h.1))
-    (ascends l.variable high c r.1 (λ k m. (r.0 k m, (w k (there m)).1)))
-
-pub clause_ascending : (high : ℕ) (c : Clause) → IsClause high c → ascending 0 high c ≡ true
-clause_ascending high c is = ascends 0 high c is.rising (λ k m. let r = is.within k m in (omega arith, r.1))
 
 -- what holds of each number's clause holds of each clause
 all_down : (P : Clause → Type 0) (f : ℕ → Clause) (k : ℕ) → ((n : ℕ) → n < k → P (f (suc n))) → (c : Clause) → c ∈ down_from f k → P c
@@ -112,61 +78,20 @@ module _ (s : View) (o : Sound s) where
   }
 
   -- a row is live exactly if no step struck its clause
-  pub row_live : (k : ℕ) → k < s.clauses → eqb (get_or s.rows k blank_row).struck 0 ≡ not (is_struck (suc k) (steps_of s))
+  pub row_live : (k : ℕ) → k < s.clauses → is_none (get_or s.rows k blank_row).struck ≡ not (is_struck (suc k) (steps_of s))
   row_live k h =
-      let d = (o.dated k h).1 in
-      elim (cases_Bool (is_struck (suc k) (steps_of s))) [
+      ap is_none (o.dated k h).1
+      ∙ elim (cases_Bool (is_struck (suc k) (steps_of s))) [
         | inl e ↦
-            ne_eqb (get_or s.rows k blank_row).struck 0
-            (λ z. let n = none_strike (steps_of s) (suc k) (sym d ∙ z) in let w : ◌≡◌ {A = ℕ} 0 1 = cc in omega arith)
+            some_step (strike_of (steps_of s) (suc k))
+            (λ z. let n = none_strike (steps_of s) (suc k) z in let w : ◌≡◌ {A = ℕ} 0 1 = cc in omega arith)
             ∙ ap not (sym e)
-        | inr e ↦ eq-eqb (get_or s.rows k blank_row).struck 0 (d ∙ strike_none (steps_of s) (suc k) e) ∙ ap not (sym e)
+        | inr e ↦ ap (λ (m : ℕ). is_none (step_or_none m)) (strike_none (steps_of s) (suc k) e) ∙ ap not (sym e)
       ]
-
-  -- the step k + 1, if it learned a lemma
-  pub lemma_at : (k : ℕ) → k < s.taken → (n : ℕ) → get_or s.steps k blank_step ≡ Lemma n
-      → (n ≡ next_number (inputs_of s) (before s k))
-      × (s.inputs < n)
-      × (n ≤ s.clauses)
-      × (before s (suc k) ≡ learned (text_in (texts s) n) ∷ before s k)
-  lemma_at k h n e =
-      let number = next_lemma (inputs_of s) (before s k) (get_or s.steps k blank_step) n (o.numbered k h) e in
-      let high = (lemma_range (text_in (texts s)) s.inputs s.steps s.taken o.numbered k h n e).1 in
-      let low = inputs_within (text_in (texts s)) s.inputs s.steps k (λ j b. o.numbered j (omega arith)) in
-      let all = o.complete in
-      (number, omega arith, omega arith, ap (λ (row : StepRow). step_of (text_in (texts s)) row ∷ before s k) e)
-
-  -- the step k + 1, if it struck a clause
-  pub strike_at : (k : ℕ) → k < s.taken → (n : ℕ) → get_or s.steps k blank_step ≡ Strike n
-      → Live (inputs_of s) (before s k) n × (before s (suc k) ≡ struck n ∷ before s k)
-  strike_at k h n e = (
-    next_strike (inputs_of s) (before s k) (get_or s.steps k blank_step) n (o.numbered k h) e,
-    ap (λ (row : StepRow). step_of (text_in (texts s)) row ∷ before s k) e,
-  )
-
-  -- so far each strike hit a live clause
-  pub strikes_at : (k : ℕ) → k ≤ s.taken → StrikesLive (inputs_of s) (before s k)
-  strikes_at = strikes_live (text_in (texts s)) s.inputs s.steps s.taken o.numbered
-
-  -- so far each number has the clause of its row
-  pub text_at_step : (k : ℕ) → k ≤ s.taken → (n : ℕ) → 1 ≤ n → n ≤ length (table (inputs_of s) (before s k))
-      → text (table (inputs_of s) (before s k)) n ≡ text_in (texts s) n
-  text_at_step k h n low high =
-      ap (λ (cs : List Clause). text cs n) (table_down (text_in (texts s)) s.inputs s.steps s.taken o.numbered k h)
-      ∙ text_down (text_in (texts s)) (length (table (inputs_of s) (before s k))) n low high
-
-  -- the clauses behind the inputs are the lemmas
-  pub all_lemmas : s.inputs + lemmas (steps_of s) ≡ s.clauses
-  all_lemmas =
-      let a = tabled (inputs_of s) (steps_of s) in
-      let b = length_down (text_in (texts s)) s.inputs in
-      let c = o.complete in
-      omega arith
     where
-      tabled : (inputs : List Clause) (steps : List Step) → length (table inputs steps) ≡ length inputs + lemmas steps
-      tabled inputs [] = omega arith
-      tabled inputs (learned c ∷ earlier) = let h = tabled inputs earlier in omega arith
-      tabled inputs (struck n ∷ earlier) = tabled inputs earlier
+      some_step : (m : ℕ) → (m ≡ 0 → ⊥) → is_none (step_or_none m) ≡ false
+      some_step zero h = absurd (h refl)
+      some_step (suc m) h = refl
 
 -- there is a step
 pub begun_taken : (text : ℕ → Clause) (steps : List StepRow) (k : ℕ) → begun (steps_from text steps k) ≡ ltb 0 k

@@ -1,5 +1,5 @@
 -- The latest step is taken back.
-use Rattle.std.proofs.Common.{◌≡◌, ℕ, suc, ◌-◌, ◌<◌, ◌≤◌, true, List, ◌∷◌, length, get_or, set, sym, refl, ap, ◌∙◌, subst, inl, inr, arith, get_or-set_other, get_or-set_same}
+use Rattle.std.proofs.Common.{◌≡◌, ℕ, suc, ◌-◌, ◌<◌, ◌≤◌, true, List, ◌∷◌, length, get_or, set, sym, refl, ap, ◌∙◌, subst, inl, inr, arith, get_or-set_other, get_or-set_same, Some, None}
 use Rattle.std.proofs.lemmas.List.{length-set}
 use Rattle.std.proofs.lemmas.Bool.{cases_eq, ne_eqb}
 use Rattle.cnf.specs.Clauses.{Clause}
@@ -12,7 +12,7 @@ use Rattle.job.specs.declared.rows.StepRow.{StepRow}
 use Rattle.job.specs.declared.rows.StepRow.TheVariants.{Lemma, Strike}
 use Rattle.job.specs.View.{View, blank_row, texts_in, text_in, texts}
 use Rattle.job.specs.History.{step_of, inputs_of, before, steps_of}
-use Rattle.job.specs.Sound.{laid_to, Rising, is_next, Sound}
+use Rattle.job.specs.Sound.{step_or_none, laid_to, Rising, is_next, Sound}
 use Rattle.job.specs.Calls.{struck_at, last_step, without}
 use Rattle.job.proofs.Histories.{inputs_within, strike_none, next_lemma, next_strike}
 use Rattle.job.proofs.Texts.{get_or_texts, laid_last, text_before}
@@ -114,7 +114,7 @@ module _ (s : View) (o : Sound s) (some : 0 < s.taken) where
               let was = o.dated k (omega arith) in
               let m = dated_without (inputs_of s) (inputs_of (without true s (Lemma n))) (before s (s.taken - 1)) (steps_of (without true s (Lemma n))) (steps_of s) (text_in (texts s) n)
               inputs_without_lemma steps_without_lemma split_lemma k (omega arith) in
-              (was.0 ∙ m.0, was.1 ∙ m.1);
+              (was.0 ∙ m.0, was.1 ∙ ap step_or_none m.1);
           ordered = λ k h. o.ordered k (omega arith);
         }
 
@@ -137,7 +137,7 @@ module _ (s : View) (o : Sound s) (some : 0 < s.taken) where
 
     text_stays : (k : ℕ) → 1 ≤ k → k ≤ length (table (inputs_of s) (before s (s.taken - 1)))
         → text_in (texts s) k ≡ text_in (texts (without true s (Strike n))) k
-    text_stays k low high = ap (λ (ts : List Clause). text_in ts k) (sym (texts_struck s o (n - 1) 0))
+    text_stays k low high = ap (λ (ts : List Clause). text_in ts k) (sym (texts_struck s o (n - 1) None))
 
     pub inputs_without_strike : inputs_of (without true s (Strike n)) ≡ inputs_of s
     inputs_without_strike =
@@ -151,43 +151,43 @@ module _ (s : View) (o : Sound s) (some : 0 < s.taken) where
     steps_without_strike = before_without_strike (s.taken - 1) (omega arith)
 
     -- the row lives again
-    alive_here : (k : ℕ) → k ≡ n - 1 → (get_or (set s.rows (n - 1) (struck_at (get_or s.rows (n - 1) blank_row) 0)) k blank_row).struck ≡ 0
+    alive_here : (k : ℕ) → k ≡ n - 1 → (get_or (set s.rows (n - 1) (struck_at (get_or s.rows (n - 1) blank_row) None)) k blank_row).struck ≡ None
     alive_here k at =
         let a = o.rooms.0 in
         let b = o.counts.1 in
         let place = struck_place in
-        ap (λ (j : ℕ). (get_or (set s.rows (n - 1) (struck_at (get_or s.rows (n - 1) blank_row) 0)) j blank_row).struck) at
-        ∙ ap (λ (x : ClauseRow). x.struck) (get_or-set_same s.rows (n - 1) (struck_at (get_or s.rows (n - 1) blank_row) 0) blank_row (omega arith))
+        ap (λ (j : ℕ). (get_or (set s.rows (n - 1) (struck_at (get_or s.rows (n - 1) blank_row) None)) j blank_row).struck) at
+        ∙ ap (λ (x : ClauseRow). x.struck) (get_or-set_same s.rows (n - 1) (struck_at (get_or s.rows (n - 1) blank_row) None) blank_row (omega arith))
 
     alive_date : (k : ℕ) → k < s.clauses
-        → (get_or (set s.rows (n - 1) (struck_at (get_or s.rows (n - 1) blank_row) 0)) k blank_row).struck
-        ≡ strike_of (steps_of (without true s (Strike n))) (suc k)
+        → (get_or (set s.rows (n - 1) (struck_at (get_or s.rows (n - 1) blank_row) None)) k blank_row).struck
+        ≡ step_or_none (strike_of (steps_of (without true s (Strike n))) (suc k))
     alive_date k h =
         let low = struck_number in
         let was = o.dated k h in
         let m = dated_strike (inputs_of s) (inputs_of s) (before s (s.taken - 1)) (steps_of s) n refl split_strike (suc k) in
-        let now = ap (λ (es : List Step). strike_of es (suc k)) (sym steps_without_strike) in
+        let now = ap (λ (es : List Step). step_or_none (strike_of es (suc k))) (sym steps_without_strike) in
         elim (cases_eq k (n - 1)) [
           | inl at ↦
               let number : n ≡ suc k = omega arith in
               alive_here k at
-              ∙ sym (ap (strike_of (before s (s.taken - 1))) (sym number) ∙ strike_none (before s (s.taken - 1)) n was_live.unstruck)
+              ∙ ap step_or_none (sym (ap (strike_of (before s (s.taken - 1))) (sym number) ∙ strike_none (before s (s.taken - 1)) n was_live.unstruck))
               ∙ now
           | inr ne ↦
-              let other = get_or-set_other s.rows (n - 1) k (struck_at (get_or s.rows (n - 1) blank_row) 0) blank_row ne in
-              ap (λ (x : ClauseRow). x.struck) other ∙ was.1 ∙ sym (m.1 (λ at. ne (omega arith))) ∙ now
+              let other = get_or-set_other s.rows (n - 1) k (struck_at (get_or s.rows (n - 1) blank_row) None) blank_row ne in
+              ap (λ (x : ClauseRow). x.struck) other ∙ was.1 ∙ ap step_or_none (sym (m.1 (λ at. ne (omega arith)))) ∙ now
         ]
 
     pub sound_without_strike : Sound (without true s (Strike n))
     sound_without_strike =
         let a = o.rooms.0 in
-        let long = length-set s.rows (n - 1) (struck_at (get_or s.rows (n - 1) blank_row) 0) in
+        let long = length-set s.rows (n - 1) (struck_at (get_or s.rows (n - 1) blank_row) None) in
         record {
           range = o.range;
           rooms = (omega arith, o.rooms.1, o.rooms.2);
           counts = (o.counts.0, o.counts.1, (let most = o.counts.2 in omega arith), o.counts.3);
-          laid = laid_struck s o (n - 1) 0;
-          rising = subst (λ (ts : List Clause). Rising s.variables ts s.clauses) (sym (texts_struck s o (n - 1) 0)) o.rising;
+          laid = laid_struck s o (n - 1) None;
+          rising = subst (λ (ts : List Clause). Rising s.variables ts s.clauses) (sym (texts_struck s o (n - 1) None)) o.rising;
           complete =
               complete_before
               ∙ ap (λ (es : List Step). length (table (inputs_of s) es)) (sym steps_without_strike)
@@ -197,7 +197,7 @@ module _ (s : View) (o : Sound s) (some : 0 < s.taken) where
           unended =
               same_unended s o (s.taken - 1) (omega arith) (text_in (texts (without true s (Strike n)))) text_stays s.steps (λ j h. refl);
           dated = λ k h.
-              let r = struck_row s.rows (n - 1) 0 k in
+              let r = struck_row s.rows (n - 1) None k in
               let was = o.dated k h in
               let m = dated_strike (inputs_of s) (inputs_of s) (before s (s.taken - 1)) (steps_of s) n refl split_strike (suc k) in
               let ins = inputs_without_strike in
@@ -207,15 +207,15 @@ module _ (s : View) (o : Sound s) (some : 0 < s.taken) where
                     ∙ ap (λ (e : List Step). entry_of (inputs_of (without true s (Strike n))) e (suc k)) (sym es),
                 alive_date k h,
               );
-          ordered = λ k h live.
-              let r = struck_row s.rows (n - 1) 0 k in
+          ordered = λ k h step e.
+              let r = struck_row s.rows (n - 1) None k in
               let q = r.entered in
               elim (cases_eq k (n - 1)) [
-                | inl at ↦ absurd (let z = alive_here k at in omega arith)
+                | inl at ↦ let none : Some step ≡ None = sym e ∙ alive_here k at in let z : ◌≡◌ {A = ℕ} 0 1 = cc in absurd (omega arith)
                 | inr ne ↦
-                    let other = get_or-set_other s.rows (n - 1) k (struck_at (get_or s.rows (n - 1) blank_row) 0) blank_row ne in
+                    let other = get_or-set_other s.rows (n - 1) k (struck_at (get_or s.rows (n - 1) blank_row) None) blank_row ne in
                     let same = ap (λ (x : ClauseRow). x.struck) other in
-                    let old = o.ordered k h (omega arith) in
+                    let old = o.ordered k h step (sym same ∙ e) in
                     omega arith
               ];
         }

@@ -10,7 +10,7 @@ use Rattle.job.specs.declared.faults.JobFault.TheVariants.{Clause as Faulty, Beg
 use Rattle.job.specs.declared.rows.ClauseRow.{ClauseRow}
 use Rattle.job.specs.declared.rows.StepRow.{StepRow}
 use Rattle.job.specs.declared.rows.StepRow.TheVariants.{Lemma, Strike}
-use Rattle.job.specs.Faults.{number_of}
+use Rattle.job.specs.Faults.{number_of, place_of}
 use Rattle.job.specs.View.{View, blank_row, blank_step, text_in, texts, with_rows, with_lits}
 use Rattle.job.specs.History.{down_from, steps_of}
 
@@ -18,6 +18,16 @@ use Rattle.job.specs.History.{down_from, steps_of}
 abbrev pub refusal : {A : Type 0} → Result A JobFault → ℕ
 refusal (Ok x) = 0
 refusal (Err fault) = number_of fault
+
+-- its place, 0 where there is none
+abbrev pub refusal_place : {A : Type 0} → Result A JobFault → ℕ
+refusal_place (Ok x) = 0
+refusal_place (Err fault) = place_of fault
+
+-- an answer with what it gives left out
+abbrev pub done_of : {A : Type 0} → Result A JobFault → Result (Unit {0}) JobFault
+done_of (Ok x) = Ok tt
+done_of (Err fault) = Err fault
 
 -- a fault of the literals comes first; then what is said of their clause
 abbrev pub with_clause : {A : Type 0} → Arrangement → (Clause → Result A JobFault) → Result A JobFault
@@ -69,11 +79,11 @@ withdraw_answer s = cond (s.taken == 0) (Err NoStep) (Ok (last_step s))
 
 -- the row of a clause that is entered at a step, 0 for an input clause: live, and without a mark
 abbrev pub new_row : View → Clause → (entered : ℕ) → ClauseRow
-new_row s c entered = record { start = s.used; len = length c; entered = entered; struck = 0; kept = false }
+new_row s c entered = record { start = s.used; len = length c; entered = entered; struck = None; kept = false }
 
--- a row whose clause is struck at a step, 0 if it lives again
-abbrev pub struck_at : ClauseRow → (step : ℕ) → ClauseRow
-struck_at row step = record { start = row.start; len = row.len; entered = row.entered; struck = step; kept = row.kept }
+-- a row whose clause is struck at a step, or lives again
+abbrev pub struck_at : ClauseRow → (step : Option ℕ) → ClauseRow
+struck_at row step = record row { struck = step }
 
 -- the first literals of a clause are written behind those in use
 abbrev pub laying : View → Clause → (count : ℕ) → View
@@ -85,32 +95,12 @@ storing s c entered = with_rows (slice_set s.rows s.clauses (new_row s c entered
 
 -- what was stored counts: as an input clause with so many literals
 abbrev pub counting_input : View → (count : ℕ) → View
-counting_input s count = record {
-  variables = s.variables;
-  places = s.places;
-  room = s.room;
-  rows = s.rows;
-  steps = s.steps;
-  lits = s.lits;
-  arcs = s.arcs;
-  inputs = s.inputs + 1;
-  clauses = s.clauses + 1;
-  taken = s.taken;
-  used = s.used + count;
-  judged = false;
-}
+counting_input s count = record s { inputs = s.inputs + 1; clauses = s.clauses + 1; used = s.used + count; judged = false }
 
 -- or as a lemma, with its step
 abbrev pub counting_lemma : View → (count : ℕ) → View
-counting_lemma s count = record {
-  variables = s.variables;
-  places = s.places;
-  room = s.room;
-  rows = s.rows;
+counting_lemma s count = record s {
   steps = slice_set s.steps s.taken (Lemma (s.clauses + 1));
-  lits = s.lits;
-  arcs = s.arcs;
-  inputs = s.inputs;
   clauses = s.clauses + 1;
   taken = s.taken + 1;
   used = s.used + count;
@@ -119,59 +109,49 @@ counting_lemma s count = record {
 
 -- an input clause is entered
 abbrev pub with_input : (accepted : Bool) → View → Clause → View
-with_input accepted s c = record {
-  variables = s.variables;
-  places = s.places;
-  room = s.room;
-  rows = cond accepted (slice_set s.rows s.clauses (new_row s c 0)) s.rows;
-  steps = s.steps;
-  lits = cond accepted (paste s.lits s.used c (length c)) s.lits;
-  arcs = s.arcs;
-  inputs = cond accepted (s.inputs + 1) s.inputs;
-  clauses = cond accepted (s.clauses + 1) s.clauses;
-  taken = s.taken;
-  used = cond accepted (s.used + length c) s.used;
-  judged = cond accepted false s.judged;
-}
+with_input accepted s c =
+    cond accepted
+    (record s {
+      rows = slice_set s.rows s.clauses (new_row s c 0);
+      lits = paste s.lits s.used c (length c);
+      inputs = s.inputs + 1;
+      clauses = s.clauses + 1;
+      used = s.used + length c;
+      judged = false;
+    })
+    s
 
 -- a lemma is entered
 abbrev pub with_lemma : (accepted : Bool) → View → Clause → View
-with_lemma accepted s c = record {
-  variables = s.variables;
-  places = s.places;
-  room = s.room;
-  rows = cond accepted (slice_set s.rows s.clauses (new_row s c (s.taken + 1))) s.rows;
-  steps = cond accepted (slice_set s.steps s.taken (Lemma (s.clauses + 1))) s.steps;
-  lits = cond accepted (paste s.lits s.used c (length c)) s.lits;
-  arcs = s.arcs;
-  inputs = s.inputs;
-  clauses = cond accepted (s.clauses + 1) s.clauses;
-  taken = cond accepted (s.taken + 1) s.taken;
-  used = cond accepted (s.used + length c) s.used;
-  judged = cond accepted false s.judged;
-}
+with_lemma accepted s c =
+    cond accepted
+    (record s {
+      rows = slice_set s.rows s.clauses (new_row s c (s.taken + 1));
+      steps = slice_set s.steps s.taken (Lemma (s.clauses + 1));
+      lits = paste s.lits s.used c (length c);
+      clauses = s.clauses + 1;
+      taken = s.taken + 1;
+      used = s.used + length c;
+      judged = false;
+    })
+    s
 
 -- clause n is struck
 abbrev pub with_strike : (accepted : Bool) → View → (n : ℕ) → View
-with_strike accepted s n = record {
-  variables = s.variables;
-  places = s.places;
-  room = s.room;
-  rows = cond accepted (slice_set s.rows (n - 1) (struck_at (slice_index_or s.rows (n - 1) blank_row) (s.taken + 1))) s.rows;
-  steps = cond accepted (slice_set s.steps s.taken (Strike n)) s.steps;
-  lits = s.lits;
-  arcs = s.arcs;
-  inputs = s.inputs;
-  clauses = s.clauses;
-  taken = cond accepted (s.taken + 1) s.taken;
-  used = s.used;
-  judged = cond accepted false s.judged;
-}
+with_strike accepted s n =
+    cond accepted
+    (record s {
+      rows = slice_set s.rows (n - 1) (struck_at (slice_index_or s.rows (n - 1) blank_row) (Some (s.taken + 1)));
+      steps = slice_set s.steps s.taken (Strike n);
+      taken = s.taken + 1;
+      judged = false;
+    })
+    s
 
 -- the rows once this step is taken back: a struck clause lives again
 abbrev pub rows_without : View → StepRow → List ClauseRow
 rows_without s (Lemma n) = s.rows
-rows_without s (Strike n) = slice_set s.rows (n - 1) (struck_at (slice_index_or s.rows (n - 1) blank_row) 0)
+rows_without s (Strike n) = slice_set s.rows (n - 1) (struck_at (slice_index_or s.rows (n - 1) blank_row) None)
 
 -- the clauses: a lemma is gone
 abbrev pub clauses_without : View → StepRow → ℕ
@@ -185,17 +165,13 @@ used_without s (Strike n) = s.used
 
 -- this latest step is taken back; its places can be used again
 abbrev pub without : (accepted : Bool) → View → StepRow → View
-without accepted s step = record {
-  variables = s.variables;
-  places = s.places;
-  room = s.room;
-  rows = cond accepted (rows_without s step) s.rows;
-  steps = s.steps;
-  lits = s.lits;
-  arcs = s.arcs;
-  inputs = s.inputs;
-  clauses = cond accepted (clauses_without s step) s.clauses;
-  taken = cond accepted (s.taken - 1) s.taken;
-  used = cond accepted (used_without s step) s.used;
-  judged = cond accepted false s.judged;
-}
+without accepted s step =
+    cond accepted
+    (record s {
+      rows = rows_without s step;
+      clauses = clauses_without s step;
+      taken = s.taken - 1;
+      used = used_without s step;
+      judged = false;
+    })
+    s

@@ -1,5 +1,5 @@
 -- What a check does to an engine before and after the way back.
-use Rattle.std.specs.Prelude.{◌≡◌, ℕ, ◌<◌, ◌≤◌, false, List, [], length, replicate, ◌==◌, slice_index_or}
+use Rattle.std.specs.Prelude.{◌≡◌, ℕ, ◌<◌, ◌≤◌, false, List, [], length, replicate, is_none, slice_index_or}
 use Rattle.cnf.specs.Clauses.{Clause}
 use Rattle.engine.specs.Meaning.{Meaning, with_on}
 use Rattle.job.specs.View.{View, blank_row}
@@ -16,7 +16,7 @@ Large s m = (s.clauses ≤ m.text_limit) × (s.used ≤ m.literal_limit)
 pub record Lit (s : View) (m₀ : Meaning) (k : ℕ) (m : Meaning) : Type 0 where
   pub but_for : m ≡ with_on m.on m₀
   pub level : length m.on ≡ s.clauses
-  pub below : (j : ℕ) → j < k → slice_index_or m.on j false ≡ ((slice_index_or s.rows j blank_row).struck == 0)
+  pub below : (j : ℕ) → j < k → slice_index_or m.on j false ≡ is_none (slice_index_or s.rows j blank_row).struck
   pub above : (j : ℕ) → k ≤ j → slice_index_or m.on j false ≡ false
 
 -- the first k marks are off

@@ -1,10 +1,9 @@
 -- What the trial of a kept lemma leaves.
 use Rattle.std.specs.Prelude.{◌≡◌, ℕ, suc, ◌+◌, ◌*◌, ◌<◌, ◌≤◌, Bool, true, false, List, [], ◌∷◌, map, length}
-use Rattle.drup.specs.declared.Forced.{Forced}
+use Rattle.cnf.specs.declared.literals.Forced.{Forced}
 use Rattle.cnf.specs.Literals.{complement}
 use Rattle.drup.specs.Backward.{ConflictOver, NothingOver, gathered, asked}
-use Rattle.engine.specs.Meaning.{Meaning, On, text_of}
-use Rattle.trial.specs.Trying.{counted_by}
+use Rattle.engine.specs.Meaning.{Meaning, On, text_of, counted_by}
 use Rattle.job.specs.declared.jobs.reports.Tally.{Tally}
 use Rattle.job.specs.View.{View, text_in, texts}
 use Rattle.job.specs.CheckLists.{row_start, recorded}

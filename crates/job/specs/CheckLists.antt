@@ -7,7 +7,7 @@ use Rattle.job.specs.View.{View, blank_row, with_rows, with_arcs, bare}
 
 -- a row that is marked
 abbrev pub kept_row : ClauseRow → ClauseRow
-kept_row row = record { start = row.start; len = row.len; entered = row.entered; struck = row.struck; kept = true }
+kept_row row = record row { kept = true }
 
 -- the clauses with these numbers are marked
 abbrev pub mark_all : (numbers : List ℕ) → List ClauseRow → List ClauseRow

@@ -1,5 +1,5 @@
 -- The way back over the steps.
-use Rattle.std.specs.Prelude.{◌≡◌, ℕ, zero, suc, ◌+◌, ◌-◌, ◌<◌, ◌≤◌, min, Bool, true, false, List, [], length, replicate, slice_index_or}
+use Rattle.std.specs.Prelude.{◌≡◌, ℕ, suc, ◌+◌, ◌-◌, ◌<◌, ◌≤◌, min, Bool, true, false, List, [], length, replicate, Ok, Err, Result, slice_index_or}
 use Rattle.drup.specs.Marks.{lone}
 use Rattle.drup.specs.Backward.{Row, Verdict, arcs, report, accepted, fails}
 use Rattle.drup.specs.Box.{last, Checks}
@@ -29,15 +29,13 @@ abbrev pub Roomy : View → Type 0
 Roomy s = (n : ℕ) → s.inputs < n → n ≤ s.clauses → row_start s n + suc s.variables ≤ length s.arcs
 
 -- before the way back: only the empty lemma is marked, the arcs are all 0, and the engine shows the whole history
-pub record Ready (s : View) (m : Meaning) (t : Tally) : Type 0 where
+pub record Ready (s : View) (m : Meaning) : Type 0 where
   pub kept : marks_of (marks s) ≡ lone (last (machine_of s))
   pub no_arcs : s.arcs ≡ replicate (length s.arcs) 0
   pub rooms : Roomy s
   pub holds : Holds m s
   pub shows : Shows m (inputs_of s) (steps_of s)
   pub uncounted : m.answers ≡ 0
-  pub no_lemmas : t.lemmas ≡ 0
-  pub none_arcs : t.arcs ≡ 0
 
 -- what the lists say once all steps are passed
 abbrev pub verdict_in : View → List Row → Verdict
@@ -63,7 +61,7 @@ pub record TurnsDown (s : View) (step : ℕ) (m' : Meaning) : Type 0 where
   pub holds : Holds m' s
   pub level : length m'.on ≡ length m'.texts
 
--- 0 is no step
-abbrev pub Walked : View → (step : ℕ) → View → Meaning → Tally → Type 0
-Walked s zero s' m' t' = Judges s s' m' t'
-Walked s (suc i) s' m' t' = TurnsDown s (suc i) m'
+-- what the way back gives: a count of the lemmas that passed, or the step of one that did not
+abbrev pub Walked : View → Result Tally ℕ → View → Meaning → Type 0
+Walked s (Ok t') s' m' = Judges s s' m' t'
+Walked s (Err step) s' m' = TurnsDown s step m'

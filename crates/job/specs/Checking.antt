@@ -7,6 +7,7 @@ use Rattle.drup.specs.Box.{Lent, Event, Checks, checked, unchecked}
 use Rattle.drup.specs.Reading.{verdict_at}
 use Rattle.engine.specs.Meaning.{Meaning}
 use Rattle.job.specs.declared.faults.JobFault.{JobFault}
+use Rattle.job.specs.declared.faults.JobFault.TheVariants.{Fails}
 use Rattle.job.specs.declared.jobs.reports.Report.{Report}
 use Rattle.job.specs.Faults.{number_of, place_of}
 use Rattle.job.specs.View.{View, texts, marks, with_rows, with_arcs, with_judged}
@@ -52,9 +53,9 @@ pub record Accepts (s : View) (r : Report) (s' : View) : Type 0 where
   pub arc_list : s'.arcs ≡ arcs_of s (verdict_at (machine_of s) (marks s') s'.arcs).rows
 
 -- or a lemma does not pass, and no mark and no arc is left
-abbrev pub Comes : View → Result Report ℕ → View → Meaning → Type 0
+abbrev pub Comes : View → Result Report JobFault → View → Meaning → Type 0
 Comes s (Ok r) s' m' = Accepts s r s' × (r.answers ≡ m'.answers)
-Comes s (Err step) s' m' = (s' ≡ wiped s) × Checks (machine_of s) (fails step m'.answers)
+Comes s (Err fault) s' m' = (s' ≡ wiped s) × ((step : ℕ) × (fault ≡ Fails step) × Checks (machine_of s) (fails step m'.answers))
 
 -- the engine ends with the job's texts, none on, and no trial
 pub record Idle (s : View) (m' : Meaning) : Type 0 where

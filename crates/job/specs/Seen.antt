@@ -27,3 +27,8 @@ SameLent i j =
     × (j.steps.ghost_name ≡ i.steps.ghost_name)
     × (j.literals.ghost_name ≡ i.literals.ghost_name)
     × (j.arcs.ghost_name ≡ i.arcs.ghost_name)
+
+-- a job over the same references that now holds this
+pub record Becomes (i : Job) (s : View) (j : Job) : Type 0 where
+  pub lent : SameLent i j
+  pub after : view j ≡ s

@@ -1,5 +1,5 @@
 -- What every job keeps.
-use Rattle.std.specs.Prelude.{◌≡◌, ℕ, zero, suc, ◌+◌, ◌*◌, ◌<◌, ◌≤◌, Bool, true, false, not, ◌&&◌, List, [], length, ◌==◌, nat_le, slice_index_or}
+use Rattle.std.specs.Prelude.{◌≡◌, ℕ, zero, suc, ◌+◌, ◌*◌, ◌<◌, ◌≤◌, Bool, true, false, not, ◌&&◌, List, [], length, Some, None, Option, ◌==◌, nat_le, slice_index_or}
 use Rattle.cnf.specs.declared.literals.Literal.{Literal}
 use Rattle.cnf.specs.Clauses.{Clause}
 use Rattle.cnf.specs.Ascending.{ascending}
@@ -8,6 +8,7 @@ use Rattle.drup.specs.Laws.{entry_of, strike_of}
 use Rattle.job.specs.declared.rows.ClauseRow.{ClauseRow}
 use Rattle.job.specs.declared.rows.StepRow.{StepRow}
 use Rattle.job.specs.declared.rows.StepRow.TheVariants.{Lemma, Strike}
+use Rattle.job.specs.Records.{InOrder}
 use Rattle.job.specs.View.{View, blank_row, blank_step, text_in, texts}
 use Rattle.job.specs.History.{down_from, steps_from}
 
@@ -55,16 +56,21 @@ Numbered texts inputs steps taken =
 abbrev pub Unended : List Clause → List StepRow → (taken : ℕ) → Type 0
 Unended texts steps taken = (k : ℕ) → k < taken → ended (steps_from (text_in texts) steps k) ≡ false
 
+-- a step by its number, where 0 is none
+abbrev pub step_or_none : ℕ → Option ℕ
+step_or_none zero = None
+step_or_none (suc n) = Some (suc n)
+
 -- each row has the step of its clause's entry and the step that struck it
 abbrev pub Dated : List ClauseRow → List Clause → (inputs : ℕ) → List StepRow → (taken clauses : ℕ) → Type 0
 Dated rows texts inputs steps taken clauses =
     (k : ℕ) → k < clauses
     → ((slice_index_or rows k blank_row).entered ≡ entry_of (down_from (text_in texts) inputs) (steps_from (text_in texts) steps taken) (suc k))
-    × ((slice_index_or rows k blank_row).struck ≡ strike_of (steps_from (text_in texts) steps taken) (suc k))
+    × ((slice_index_or rows k blank_row).struck ≡ step_or_none (strike_of (steps_from (text_in texts) steps taken) (suc k)))
 
 -- no clause was struck at or before the step of its entry
 abbrev pub Ordered : List ClauseRow → (clauses : ℕ) → Type 0
-Ordered rows clauses = (k : ℕ) → k < clauses → 0 < (slice_index_or rows k blank_row).struck → (slice_index_or rows k blank_row).entered < (slice_index_or rows k blank_row).struck
+Ordered rows clauses = (k : ℕ) → k < clauses → InOrder (slice_index_or rows k blank_row)
 
 -- all of it
 pub record Sound (s : View) : Type 0 where

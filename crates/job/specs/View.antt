@@ -1,5 +1,5 @@
 -- What a job holds, with the memory that it lies in left out.
-use Rattle.std.specs.Prelude.{ℕ, zero, suc, Bool, false, List, [], map, take, drop, slice_index_or}
+use Rattle.std.specs.Prelude.{ℕ, zero, suc, Bool, false, List, [], map, take, drop, None, slice_index_or}
 use Rattle.cnf.specs.declared.literals.Literal.{Literal}
 use Rattle.cnf.specs.Clauses.{Clause}
 use Rattle.job.specs.declared.rows.ClauseRow.{ClauseRow}
@@ -24,7 +24,7 @@ pub record View : Type 0 where
 
 -- what a read past the end of a list would give
 abbrev pub blank_row : ClauseRow
-blank_row = record { start = 0; len = 0; entered = 0; struck = 0; kept = false }
+blank_row = record { start = 0; len = 0; entered = 0; struck = None; kept = false }
 
 abbrev pub blank_step : StepRow
 blank_step = Lemma 0
@@ -56,20 +56,20 @@ marks s = map (λ row. row.kept) (take s.clauses s.rows)
 
 -- the same but for one list, or for the judgement
 abbrev pub with_rows : List ClauseRow → View → View
-with_rows rows s = record { variables = s.variables; places = s.places; room = s.room; rows = rows; steps = s.steps; lits = s.lits; arcs = s.arcs; inputs = s.inputs; clauses = s.clauses; taken = s.taken; used = s.used; judged = s.judged }
+with_rows rows s = record s { rows = rows }
 
 abbrev pub with_step_rows : List StepRow → View → View
-with_step_rows steps s = record { variables = s.variables; places = s.places; room = s.room; rows = s.rows; steps = steps; lits = s.lits; arcs = s.arcs; inputs = s.inputs; clauses = s.clauses; taken = s.taken; used = s.used; judged = s.judged }
+with_step_rows steps s = record s { steps = steps }
 
 abbrev pub with_lits : List Literal → View → View
-with_lits lits s = record { variables = s.variables; places = s.places; room = s.room; rows = s.rows; steps = s.steps; lits = lits; arcs = s.arcs; inputs = s.inputs; clauses = s.clauses; taken = s.taken; used = s.used; judged = s.judged }
+with_lits lits s = record s { lits = lits }
 
 abbrev pub with_arcs : List ℕ → View → View
-with_arcs arcs s = record { variables = s.variables; places = s.places; room = s.room; rows = s.rows; steps = s.steps; lits = s.lits; arcs = arcs; inputs = s.inputs; clauses = s.clauses; taken = s.taken; used = s.used; judged = s.judged }
+with_arcs arcs s = record s { arcs = arcs }
 
 abbrev pub with_judged : Bool → View → View
-with_judged judged s = record { variables = s.variables; places = s.places; room = s.room; rows = s.rows; steps = s.steps; lits = s.lits; arcs = s.arcs; inputs = s.inputs; clauses = s.clauses; taken = s.taken; used = s.used; judged = judged }
+with_judged judged s = record s { judged = judged }
 
 -- a row but for its mark
 abbrev pub bare : ClauseRow → ClauseRow
-bare row = record { start = row.start; len = row.len; entered = row.entered; struck = row.struck; kept = false }
+bare row = record row { kept = false }

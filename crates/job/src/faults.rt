@@ -6,7 +6,7 @@ ghost use Rattle.job.specs.declared.faults.JobFault.TheVariants.{Clause};
 use cnf::faults::{ClauseFault, Layer};
 
 /// Why a job refuses a call.
-#[derive(Clone, Copy)]
+#[derive(Clone, Copy, PartialEq, Eq, Debug)]
 pub enum JobFault {
     /// What is wrong with the literals of a call.
     Clause(ClauseFault),

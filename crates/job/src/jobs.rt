@@ -1,5 +1,4 @@
 //! A job: four lent lists, what of each is in use, and what ties them together.
-ghost use Rattle.std.specs.Prelude.{◌≡◌, ◌≤◌, length};
 ghost use Rattle.job.specs.View.{texts_in};
 ghost use Rattle.job.specs.Sound.{Range, Rooms, Counts, Laid, Rising, Complete, Numbered, Unended, Dated, Ordered};
 
@@ -21,6 +20,8 @@ pub mod texts;
 pub mod walking;
 
 /// A job over four lists that the caller lends: input clauses, and then steps.
+// Counts are u16, as numbers and rows are. Where one is an index it is cast by `as`: of what `usize::from` gives, a proof
+// knows only that it is equal.
 #[derive(Drop)]
 pub struct Job<'a> {
     /// The highest variable.
@@ -34,13 +35,13 @@ pub struct Job<'a> {
     literals: &'a mut [Literal],
     arcs: &'a mut [u16],
     /// How many clauses are input clauses.
-    inputs: usize,
+    inputs: u16,
     /// How many clauses stand.
-    clauses: usize,
+    clauses: u16,
     /// How many steps stand.
-    taken: usize,
+    taken: u16,
     /// How many literals stand.
-    used: usize,
+    used: u16,
     /// Whether marks and arcs are those of an accepting check, with no call accepted since.
     judged: bool,
     ghost range: { Range variables places room },

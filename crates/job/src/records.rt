@@ -1,6 +1,6 @@
 //! A clause record: a row that was seen to be in order.
-ghost use Rattle.std.specs.Prelude.{◌≡◌, ◌<◌, MatchOption, ◌==◌};
-ghost use Rattle.job.specs.Records.{Disordered};
+ghost use Rattle.std.specs.Prelude.{◌≡◌, MatchOption, is_none};
+ghost use Rattle.job.specs.Records.{InOrder, Disordered};
 
 use crate::rows::ClauseRow;
 
@@ -8,7 +8,7 @@ use crate::rows::ClauseRow;
 #[derive(Clone, Copy)]
 pub struct ClauseRecord {
     row: ClauseRow,
-    ghost ordered: { 0 < row.struck → row.entered < row.struck },
+    ghost ordered: { InOrder row },
 }
 
 impl ClauseRecord {
@@ -16,16 +16,16 @@ impl ClauseRecord {
     pub fn of(row: ClauseRow) -> Option<ClauseRecord>
         ensures { MatchOption result (Disordered row) (λ x. x.row ≡ row) }
     {
-        if row.struck != 0 && row.struck <= row.entered {
-            return None;
+        match row.struck {
+            Some(step) if step <= row.entered => None,
+            _ => Some(ClauseRecord { row }),
         }
-        Some(ClauseRecord { row })
     }
 
     /// Whether no step has struck the clause.
     pub fn is_live(self) -> bool
-        ensures { result ≡ (self.row.struck == 0) }
+        ensures { result ≡ is_none self.row.struck }
     {
-        self.row.struck == 0
+        self.row.struck.is_none()
     }
 }

@@ -1,5 +1,5 @@
 //! A job told call by call.
-use crate::jobs::opening::open;
+use crate::jobs::opening::{Size, open};
 use crate::rows::{ClauseRow, StepRow};
 use cnf::literals::Literal;
 
@@ -9,7 +9,7 @@ fn a_lone_clause_is_struck_once(rt: HostRuntime) {
         start: 9,
         len: 9,
         entered: 9,
-        struck: 9,
+        struck: Some(9),
         kept: true,
     }; 1];
     let mut steps = [StepRow::Lemma(7); 2];
@@ -19,7 +19,12 @@ fn a_lone_clause_is_struck_once(rt: HostRuntime) {
     };
     let mut literals = [one; 1];
     let mut arcs = [5u16; 1];
-    let mut job = open(1, 1, 1, &mut records, &mut steps, &mut literals, &mut arcs);
+    let size = Size {
+        variables: 1,
+        places: 1,
+        room: 1,
+    };
+    let mut job = open(size, &mut records, &mut steps, &mut literals, &mut arcs);
     assert!(rt; job.clause(&[one]).is_ok());
     assert!(rt; job.strike(&[one]).is_ok());
     assert!(rt; job.strike(&[one]).is_err());

@@ -3,7 +3,7 @@ ghost use Rattle.std.specs.Prelude.{◌≡◌, ◌+◌, ◌*◌, ◌<◌, ◌≤
 ghost use Rattle.cnf.specs.Arranging.{arranged};
 ghost use Rattle.drup.specs.Forward.{clause as tell_clause, lemma as tell_lemma};
 ghost use Rattle.drup.specs.Box.{Happens, called};
-ghost use Rattle.job.specs.Seen.{view, SameLent};
+ghost use Rattle.job.specs.Seen.{view, Becomes};
 ghost use Rattle.job.specs.History.{box_in};
 ghost use Rattle.job.specs.Sound.{Sound};
 ghost use Rattle.job.specs.Calls.{refusal, clause_answer, lemma_answer, laying, storing, counting_input, counting_lemma, with_input, with_lemma};
@@ -18,38 +18,32 @@ impl Job<'_> {
     /// Copies literals behind those in use.
     fn lay(&mut self, clause: &[Literal])
         requires { self.old.used + length clause.now ≤ self.old.room }
-        ensures lent { SameLent self.old self.new }
-        ensures after { view self.new ≡ laying (view self.old) clause.now (length clause.now) }
+        ensures { Becomes self.old (laying (view self.old) clause.now (length clause.now)) self.new }
     {
-        let start = self.used;
-        for j in 0..clause.len() {
-            self.literals[start + j] = clause[j];
-        }
+        let start = self.used as usize;
+        self.literals[start..start + clause.len()].copy_from_slice(clause);
     }
 
     /// Writes a clause and its row behind those in use.
     fn store(&mut self, clause: &[Literal], entered: u16)
         requires { (self.old.clauses < self.old.places) × (self.old.used + length clause.now ≤ self.old.room) }
-        ensures lent { SameLent self.old self.new }
-        ensures after { view self.new ≡ storing (view self.old) clause.now entered }
+        ensures { Becomes self.old (storing (view self.old) clause.now entered) self.new }
     {
         self.lay(clause);
-        let place = self.clauses;
-        self.records[place] = ClauseRow {
-            start: self.used as u16,
+        self.records[self.clauses as usize] = ClauseRow {
+            start: self.used,
             len: clause.len() as u16,
             entered,
-            struck: 0,
+            struck: None,
             kept: false,
         };
     }
 
     /// Counts what was stored as an input clause with so many literals.
-    fn count_input(&mut self, count: usize)
+    fn count_input(&mut self, count: u16)
         requires places { (self.old.clauses < self.old.places) × (self.old.used + count ≤ self.old.room) }
         requires sound { Sound (counting_input (view self.old) count) }
-        ensures lent { SameLent self.old self.new }
-        ensures after { view self.new ≡ counting_input (view self.old) count }
+        ensures { Becomes self.old (counting_input (view self.old) count) self.new }
     {
         self.inputs += 1;
         self.clauses += 1;
@@ -58,26 +52,23 @@ impl Job<'_> {
     }
 
     /// Counts what was stored as a lemma with so many literals, and adds its step.
-    fn count_lemma(&mut self, count: usize)
+    fn count_lemma(&mut self, count: u16)
         requires places { (self.old.clauses < self.old.places) × ((self.old.used + count ≤ self.old.room) × (self.old.taken < 2 * self.old.places)) }
         requires sound { Sound (counting_lemma (view self.old) count) }
-        ensures lent { SameLent self.old self.new }
-        ensures after { view self.new ≡ counting_lemma (view self.old) count }
+        ensures { Becomes self.old (counting_lemma (view self.old) count) self.new }
     {
-        let last = self.taken;
-        let number = self.clauses as u16 + 1;
-        self.steps[last] = StepRow::Lemma(number);
-        self.clauses += 1;
-        self.taken = last + 1;
+        let number = self.clauses + 1;
+        self.steps[self.taken as usize] = StepRow::Lemma(number);
+        self.clauses = number;
+        self.taken += 1;
         self.used += count;
         self.judged = false;
     }
 
     /// Enters an input clause, its literals in any order, and gives its number.
     pub fn clause(&mut self, literals: &[Literal]) -> Result<u16, JobFault>
-        ensures lent { SameLent self.old self.new }
+        ensures becomes { Becomes self.old (with_input (is_ok result) (view self.old) (arranged literals.now)) self.new }
         ensures answer { result ≡ clause_answer (view self.old) literals.now }
-        ensures after { view self.new ≡ with_input (is_ok result) (view self.old) (arranged literals.now) }
         ensures happens { Happens (box_in (view self.old)) (called (tell_clause literals.now) (refusal result)) (box_in (view self.new)) }
     {
         let draft = arrange(self.variables, literals);
@@ -89,15 +80,14 @@ impl Job<'_> {
             return Err(JobFault::Full);
         }
         self.store(clause, 0);
-        self.count_input(clause.len());
-        Ok(self.clauses as u16)
+        self.count_input(clause.len() as u16);
+        Ok(self.clauses)
     }
 
     /// Adds a step that learns a clause, its literals in any order, and gives the clause's number.
     pub fn lemma(&mut self, literals: &[Literal]) -> Result<u16, JobFault>
-        ensures lent { SameLent self.old self.new }
+        ensures becomes { Becomes self.old (with_lemma (is_ok result) (view self.old) (arranged literals.now)) self.new }
         ensures answer { result ≡ lemma_answer (view self.old) literals.now }
-        ensures after { view self.new ≡ with_lemma (is_ok result) (view self.old) (arranged literals.now) }
         ensures happens { Happens (box_in (view self.old)) (called (tell_lemma literals.now) (refusal result)) (box_in (view self.new)) }
     {
         let draft = arrange(self.variables, literals);
@@ -108,8 +98,8 @@ impl Job<'_> {
         if self.is_full(clause.len()) {
             return Err(JobFault::Full);
         }
-        self.store(clause, self.taken as u16 + 1);
-        self.count_lemma(clause.len());
-        Ok(self.clauses as u16)
+        self.store(clause, self.taken + 1);
+        self.count_lemma(clause.len() as u16);
+        Ok(self.clauses)
     }
 }

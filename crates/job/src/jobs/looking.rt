@@ -1,6 +1,5 @@
 //! What can be seen of a job without changing it.
 ghost use Rattle.std.specs.Prelude.{◌≡◌, ◌-◌, ◌≤◌, not, ◌&&◌, if◌then◌else◌, slice_index_or};
-ghost use Rattle.cnf.specs.Literals.{same_literal};
 ghost use Rattle.drup.specs.History.{same_clause, is_struck, live_copy, ended};
 ghost use Rattle.job.specs.View.{blank_row, text_in, texts};
 ghost use Rattle.job.specs.Seen.{view};
@@ -13,28 +12,6 @@ use crate::records::ClauseRecord;
 use crate::rows::StepRow;
 use cnf::literals::Literal;
 
-/// Whether two literals are the same.
-fn same_literal(a: Literal, b: Literal) -> bool
-    ensures { result ≡ same_literal a b }
-{
-    a.variable == b.variable && a.negated == b.negated
-}
-
-/// Whether two clauses have the same literals; both stand by rising variable.
-fn same_clause(a: &[Literal], b: &[Literal]) -> bool
-    ensures { result ≡ same_clause a.now b.now }
-{
-    if a.len() != b.len() {
-        return false;
-    }
-    for i in 0..a.len() {
-        if !same_literal(a[i], b[i]) {
-            return false;
-        }
-    }
-    true
-}
-
 impl Job<'_> {
     /// The literals of the clause with this number.
     pub(crate) fn text(&self, n: u16) -> &[Literal]
@@ -43,8 +20,7 @@ impl Job<'_> {
     {
         let row = self.records[n as usize - 1];
         let start = row.start as usize;
-        let end = start + row.len as usize;
-        &self.literals[start..end]
+        &self.literals[start..start + row.len as usize]
     }
 
     /// The record of the clause with this number.
@@ -52,10 +28,7 @@ impl Job<'_> {
         requires { (1 ≤ n) × (n ≤ self.now.clauses) }
         ensures { result.row ≡ slice_index_or self.now.records.now (n - 1) blank_row }
     {
-        match ClauseRecord::of(self.records[n as usize - 1]) {
-            Some(found) => found,
-            None => unreachable(),
-        }
+        ClauseRecord::of(self.records[n as usize - 1]).unwrap()
     }
 
     /// Whether the last step is the empty lemma.
@@ -65,9 +38,8 @@ impl Job<'_> {
         if self.taken == 0 {
             return false;
         }
-        let step = self.steps[self.taken - 1];
-        match step {
-            StepRow::Lemma(n) => self.text(n).len() == 0,
+        match self.steps[self.taken as usize - 1] {
+            StepRow::Lemma(n) => self.text(n).is_empty(),
             StepRow::Strike(_) => false,
         }
     }
@@ -76,7 +48,7 @@ impl Job<'_> {
     pub(crate) fn is_full(&self, count: usize) -> bool
         ensures { result ≡ no_room (view self.now) count }
     {
-        self.places <= self.clauses || self.room - self.used < count
+        self.places <= self.clauses as usize || self.room - (self.used as usize) < count
     }
 
     /// Whether the clause with this number is live and has these literals. If it is not, a lower one may be.
@@ -85,19 +57,17 @@ impl Job<'_> {
         ensures answer { result ≡ (same_clause clause.now (text_in (texts (view self.now)) n) && not (is_struck n (steps_of (view self.now)))) }
         ensures lower { live_copy clause.now (down_from (text_in (texts (view self.now))) n) (steps_of (view self.now)) ≡ (if result then n else live_copy clause.now (down_from (text_in (texts (view self.now))) (n - 1)) (steps_of (view self.now))) }
     {
-        same_clause(clause, self.text(n)) && self.record(n).is_live()
+        clause == self.text(n) && self.record(n).is_live()
     }
 
     /// The highest number of a live clause with these literals.
     pub(crate) fn live_copy(&self, clause: &[Literal]) -> Option<u16>
         ensures { FoundCopy (view self.now) clause.now result }
     {
-        let mut n = self.clauses as u16;
-        while n > 0 {
+        for n in (1..=self.clauses).rev() {
             if self.is_live_copy(n, clause) {
                 return Some(n);
             }
-            n -= 1;
         }
         None
     }

@@ -1,15 +1,16 @@
 //! Calls as data.
 
-/// A call of a job. Where a call has literals, they stand in a list beside it: `len` of them from the place `start` on, or
-/// as many as there are.
-#[derive(Clone, Copy)]
-pub enum Order {
+use cnf::literals::Literal;
+
+/// A call of a job, with its literals.
+#[derive(Clone, Copy, PartialEq, Eq, Debug)]
+pub enum Order<'a> {
     /// Enter an input clause.
-    Clause { start: usize, len: usize },
+    Clause(&'a [Literal]),
     /// Learn a clause.
-    Lemma { start: usize, len: usize },
+    Lemma(&'a [Literal]),
     /// Strike a clause.
-    Strike { start: usize, len: usize },
+    Strike(&'a [Literal]),
     /// Take the latest step back.
     Withdraw,
     /// Check the proof.

@@ -1,7 +1,7 @@
 //! What a check reports.
 
 /// What an accepting check reports.
-#[derive(Clone, Copy)]
+#[derive(Clone, Copy, PartialEq, Eq, Debug)]
 pub struct Report {
     /// How many input clauses are kept.
     pub inputs: usize,

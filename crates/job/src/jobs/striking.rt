@@ -4,7 +4,7 @@ ghost use Rattle.cnf.specs.Arranging.{arranged};
 ghost use Rattle.drup.specs.Forward.{strike as tell_strike, withdraw as tell_withdraw};
 ghost use Rattle.drup.specs.Box.{Happens, called};
 ghost use Rattle.job.specs.declared.rows.StepRow.TheVariants.{Lemma, Strike};
-ghost use Rattle.job.specs.Seen.{view, SameLent};
+ghost use Rattle.job.specs.Seen.{view, Becomes};
 ghost use Rattle.job.specs.History.{box_in};
 ghost use Rattle.job.specs.Sound.{Sound};
 ghost use Rattle.job.specs.Calls.{refusal, copy_in, strike_answer, with_strike, last_step, withdraw_answer, without};
@@ -21,23 +21,19 @@ impl Job<'_> {
         requires number { (1 ≤ n) × (n ≤ self.old.clauses) }
         requires place { self.old.taken < 2 * self.old.places }
         requires sound { Sound (with_strike true (view self.old) n) }
-        ensures lent { SameLent self.old self.new }
-        ensures after { view self.new ≡ with_strike true (view self.old) n }
+        ensures { Becomes self.old (with_strike true (view self.old) n) self.new }
     {
-        let last = self.taken;
-        self.steps[last] = StepRow::Strike(n);
-        let place = n as usize - 1;
-        self.records[place].struck = last as u16 + 1;
-        self.taken = last + 1;
+        self.steps[self.taken as usize] = StepRow::Strike(n);
+        self.records[n as usize - 1].struck = Some(self.taken + 1);
+        self.taken += 1;
         self.judged = false;
     }
 
     /// Adds a step that strikes the live clause with these literals, in any order, of several copies the one with the
     /// highest number, and gives its number.
     pub fn strike(&mut self, literals: &[Literal]) -> Result<u16, JobFault>
-        ensures lent { SameLent self.old self.new }
+        ensures becomes { Becomes self.old (with_strike (is_ok result) (view self.old) (copy_in (view self.old) (arranged literals.now))) self.new }
         ensures answer { result ≡ strike_answer (view self.old) literals.now }
-        ensures after { view self.new ≡ with_strike (is_ok result) (view self.old) (copy_in (view self.old) (arranged literals.now)) }
         ensures happens { Happens (box_in (view self.old)) (called (tell_strike literals.now) (refusal result)) (box_in (view self.new)) }
     {
         let draft = arrange(self.variables, literals);
@@ -57,13 +53,10 @@ impl Job<'_> {
         requires number { (1 ≤ n) × (n ≤ self.old.clauses) }
         requires some { 1 ≤ self.old.taken }
         requires sound { Sound (without true (view self.old) (Lemma n)) }
-        ensures lent { SameLent self.old self.new }
-        ensures after { view self.new ≡ without true (view self.old) (Lemma n) }
+        ensures { Becomes self.old (without true (view self.old) (Lemma n)) self.new }
     {
-        let place = n as usize - 1;
-        let row = self.records[place];
-        self.used = row.start as usize;
-        self.clauses = place;
+        self.used = self.records[n as usize - 1].start;
+        self.clauses = n - 1;
         self.taken -= 1;
         self.judged = false;
     }
@@ -73,11 +66,9 @@ impl Job<'_> {
         requires number { (1 ≤ n) × (n ≤ self.old.clauses) }
         requires some { 1 ≤ self.old.taken }
         requires sound { Sound (without true (view self.old) (Strike n)) }
-        ensures lent { SameLent self.old self.new }
-        ensures after { view self.new ≡ without true (view self.old) (Strike n) }
+        ensures { Becomes self.old (without true (view self.old) (Strike n)) self.new }
     {
-        let place = n as usize - 1;
-        self.records[place].struck = 0;
+        self.records[n as usize - 1].struck = None;
         self.taken -= 1;
         self.judged = false;
     }
@@ -85,24 +76,18 @@ impl Job<'_> {
     /// Takes back the latest step, and gives it: a lemma is gone, and its places are used again; a struck clause lives
     /// again.
     pub fn withdraw(&mut self) -> Result<StepRow, JobFault>
-        ensures lent { SameLent self.old self.new }
+        ensures becomes { Becomes self.old (without (is_ok result) (view self.old) (last_step (view self.old))) self.new }
         ensures answer { result ≡ withdraw_answer (view self.old) }
-        ensures after { view self.new ≡ without (is_ok result) (view self.old) (last_step (view self.old)) }
         ensures happens { Happens (box_in (view self.old)) (called tell_withdraw (refusal result)) (box_in (view self.new)) }
     {
         if self.taken == 0 {
             return Err(JobFault::NoStep);
         }
-        let step = self.steps[self.taken - 1];
+        let step = self.steps[self.taken as usize - 1];
         match step {
-            StepRow::Lemma(n) => {
-                self.forget(n);
-                Ok(step)
-            }
-            StepRow::Strike(n) => {
-                self.revive(n);
-                Ok(step)
-            }
+            StepRow::Lemma(n) => self.forget(n),
+            StepRow::Strike(n) => self.revive(n),
         }
+        Ok(step)
     }
 }

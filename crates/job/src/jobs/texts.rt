@@ -10,8 +10,6 @@ use trial::texts::Texts;
 impl<'a> Texts for Job<'a> {
     ghost clauses = { λ j. texts (view j) };
 
-    ghost sound = { λ _. Unit {0} };
-
     fn clause(&self, number: u16) -> &[Literal] {
         self.text(number)
     }

@@ -22,7 +22,7 @@ returns-then-self-gt0 c =
     let m = makes s.variables ls x (outcome c.arrange-draft.result) j.range.0 c.in_ok-clause.ensures c.arrange-draft.ensures.outcome in
     let r : Result ℕ JobFault = Err Begun in
     let answer : r ≡ clause_answer s ls = clause_begun s ls x m.is (omega arith) in
-    record { lent = (refl, refl, refl, refl); answer = answer; after = refl; happens = clause_happens s (sound j) ls r s answer refl }
+    record { becomes = record { lent = (refl, refl, refl, refl); after = refl }; answer = answer; happens = clause_happens s (sound j) ls r s answer refl }
 
 pub returns-then-is_full : goal.returns-then-is_full
 returns-then-is_full c =
@@ -33,7 +33,7 @@ returns-then-is_full c =
     let m = makes s.variables ls x (outcome c.arrange-draft.result) j.range.0 c.in_ok-clause.ensures c.arrange-draft.ensures.outcome in
     let r : Result ℕ JobFault = Err Full in
     let answer : r ≡ clause_answer s ls = clause_full s ls x m.is (omega arith) (sym c.if-is_full.ensures) in
-    record { lent = (refl, refl, refl, refl); answer = answer; after = refl; happens = clause_happens s (sound j) ls r s answer refl }
+    record { becomes = record { lent = (refl, refl, refl, refl); after = refl }; answer = answer; happens = clause_happens s (sound j) ls r s answer refl }
 
 pub count_input-requires : goal.count_input-requires
 count_input-requires c =
@@ -67,8 +67,7 @@ returns c =
     let answer : r ≡ clause_answer s ls =
     ap (λ (t : View). Ok t.clauses) after ∙ clause_entered s ls x m.is (omega arith) (sym c.if-is_full.ensures) in
     record {
-      lent = search rules;
+      becomes = record { lent = search rules; after = after };
       answer = answer;
-      after = after;
       happens = clause_happens s (sound j) ls r (view c.count_input.new.self) answer after;
     }

@@ -1,5 +1,6 @@
+use Rattle.std.proofs.Common.{◌-◌}
 use Rattle.job.specs.CheckFrame.{Dark}
 use Rattle.job.proofs.jobs.Job.darken.Given as goal
 
-abbrev pub invariant-loop-i : goal.invariant-loop-i
-invariant-loop-i g l = Dark l.self.clauses (g.E.Engine.meaning l.initial.engine) l.i (g.E.Engine.meaning l.engine) × g.E.Engine.sound l.engine
+abbrev pub invariant-loop-n : goal.invariant-loop-n
+invariant-loop-n g l = Dark l.self.clauses (g.E.Engine.meaning l.initial.engine) (l.n - 1) (g.E.Engine.meaning l.engine)

@@ -7,31 +7,16 @@ use Rattle.job.specs.Seen.{view}
 use Rattle.job.specs.History.{step_of, before}
 use Rattle.job.proofs.Keeping.{sound}
 use Rattle.job.proofs.Copies.{ended_lemma}
-use Rattle.job.proofs.Withdrawals.{steps_split, last_clause, number_positive}
+use Rattle.job.proofs.Withdrawals.{steps_split}
 use Rattle.job.proofs.jobs.Job.is_ended.Goals as goal
-
-pub text-requires : goal.text-requires
-text-requires c =
-    let j = c.args.self.now in
-    let some : 0 < j.taken = omega arith in
-    let e = last_clause (view j) (sound j) some c.in-Lemma.n c.in-Lemma.is in
-    let p = number_positive (view j) (sound j) some c.in-Lemma.n c.in-Lemma.is in
-    (p, omega arith)
 
 pub returns-in-Lemma : goal.returns-in-Lemma
 returns-in-Lemma c =
     let j = c.args.self.now in
     let s = view j in
     let some : 0 < j.taken = omega arith in
-    ap (λ (x : Clause). eqb (length x) 0) c.text.ensures
+    c.is_empty.ensures
+    ∙ ap (λ (x : Clause). eqb (length x) 0) c.text.ensures
     ∙ ended_lemma (text_in (texts s) c.in-Lemma.n) (before s (s.taken - 1))
     ∙ ap (λ (row : StepRow). ended (step_of (text_in (texts s)) row ∷ before s (s.taken - 1))) (sym c.in-Lemma.is)
-    ∙ ap ended (sym (steps_split s (sound j) some))
-
-pub returns-in-Strike : goal.returns-in-Strike
-returns-in-Strike c =
-    let j = c.args.self.now in
-    let s = view j in
-    let some : 0 < j.taken = omega arith in
-    ap (λ (row : StepRow). ended (step_of (text_in (texts s)) row ∷ before s (s.taken - 1))) (sym c.in-Strike.is)
     ∙ ap ended (sym (steps_split s (sound j) some))

@@ -22,7 +22,7 @@ returns-then-is_ended c =
     let m = makes s.variables ls x (outcome c.arrange-draft.result) j.range.0 c.in_ok-clause.ensures c.arrange-draft.ensures.outcome in
     let r : Result ℕ JobFault = Err Ended in
     let answer : r ≡ lemma_answer s ls = lemma_ended s ls x m.is (sym c.if-is_ended.ensures) in
-    record { lent = (refl, refl, refl, refl); answer = answer; after = refl; happens = lemma_happens s (sound j) ls r s answer refl }
+    record { becomes = record { lent = (refl, refl, refl, refl); after = refl }; answer = answer; happens = lemma_happens s (sound j) ls r s answer refl }
 
 pub returns-then-is_full : goal.returns-then-is_full
 returns-then-is_full c =
@@ -33,7 +33,7 @@ returns-then-is_full c =
     let m = makes s.variables ls x (outcome c.arrange-draft.result) j.range.0 c.in_ok-clause.ensures c.arrange-draft.ensures.outcome in
     let r : Result ℕ JobFault = Err Full in
     let answer : r ≡ lemma_answer s ls = lemma_full s ls x m.is (sym c.if-is_ended.ensures) (sym c.if-is_full.ensures) in
-    record { lent = (refl, refl, refl, refl); answer = answer; after = refl; happens = lemma_happens s (sound j) ls r s answer refl }
+    record { becomes = record { lent = (refl, refl, refl, refl); after = refl }; answer = answer; happens = lemma_happens s (sound j) ls r s answer refl }
 
 pub count_lemma-requires : goal.count_lemma-requires
 count_lemma-requires c =
@@ -68,8 +68,7 @@ returns c =
     let answer : r ≡ lemma_answer s ls =
     ap (λ (t : View). Ok t.clauses) after ∙ lemma_entered s ls x m.is (sym c.if-is_ended.ensures) (sym c.if-is_full.ensures) in
     record {
-      lent = search rules;
+      becomes = record { lent = search rules; after = after };
       answer = answer;
-      after = after;
       happens = lemma_happens s (sound j) ls r (view c.count_lemma.new.self) answer after;
     }

@@ -1,4 +1,4 @@
-use Rattle.std.proofs.Common.{◌≡◌, ◌≤◌}
+use Rattle.std.proofs.Common.{◌≡◌}
 use Rattle.drup.specs.History.{live_copy}
 use Rattle.job.specs.View.{text_in, texts}
 use Rattle.job.specs.Seen.{view}
@@ -7,9 +7,4 @@ use Rattle.job.specs.Calls.{copy_in}
 use Rattle.job.proofs.jobs.Job.live_copy.Given as goal
 
 abbrev pub invariant-loop-n : goal.invariant-loop-n
-invariant-loop-n l =
-    (l.n ≤ l.self.clauses)
-    × (live_copy l.clause (down_from (text_in (texts (view l.self))) l.n) (steps_of (view l.self)) ≡ copy_in (view l.self) l.clause)
-
-abbrev pub decreases-loop-n : goal.decreases-loop-n
-decreases-loop-n l = l.n
+invariant-loop-n l = live_copy l.clause (down_from (text_in (texts (view l.self))) l.n) (steps_of (view l.self)) ≡ copy_in (view l.self) l.clause

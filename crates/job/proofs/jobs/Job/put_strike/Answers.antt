@@ -1,22 +1,10 @@
 use Rattle.job.specs.declared.rows.StepRow.TheVariants.{Strike}
 use Rattle.job.specs.Seen.{view}
-use Rattle.job.proofs.Keeping.{sound, sound_next}
+use Rattle.job.proofs.Keeping.{sound, held, sound_next}
 use Rattle.job.proofs.jobs.Job.put_strike.Goals as goal
 
 -- a step that does not count yet
 pub invariant_of-self : goal.invariant_of-self
 invariant_of-self c =
     let j = c.args.self.now in
-    let o = sound_next (view j) (Strike c.args.n) (sound j) in
-    record {
-      range = o.range;
-      rooms = o.rooms;
-      counts = o.counts;
-      laid = o.laid;
-      rising = o.rising;
-      complete = o.complete;
-      numbered = o.numbered;
-      unended = o.unended;
-      dated = o.dated;
-      ordered = o.ordered;
-    }
+    held _ (sound_next (view j) (Strike c.args.n) (sound j))

@@ -4,22 +4,8 @@ use Rattle.engine.specs.Meaning.{text_of}
 use Rattle.trial.specs.Noted.{latest}
 use Rattle.job.specs.View.{View}
 use Rattle.job.specs.Seen.{view}
-use Rattle.job.proofs.Keeping.{sound}
-use Rattle.job.proofs.CheckFit.{fit}
-use Rattle.job.proofs.CheckJudgement.{all_within, place_same, its_row, row_fits, row_on, recorded_is}
+use Rattle.job.proofs.CheckJudgement.{place_same, its_row, row_fits, row_on, recorded_is}
 use Rattle.job.proofs.jobs.Job.record_row.Goals as goal
-
-pub row_of-row-requires : goal.row_of-row-requires
-row_of-row-requires g c =
-    let j = c.args.self.now in
-    let o = fit (view j) (sound j) in
-    let l = o.all_texts in
-    record {
-      sound = tt;
-      within = all_within (view j) o;
-      known = c.requires.known;
-      numbered = (c.requires.numbered.0, omega (arith, c.requires.numbered.1));
-    }
 
 pub lay_row-requires : goal.lay_row-requires
 lay_row-requires g c =
@@ -38,7 +24,6 @@ keep-requires g c n x =
 
 pub prefer_all-requires : goal.prefer_all-requires
 prefer_all-requires g c = record {
-  sound = c.requires.sound;
   idle = c.requires.holds.shut;
   on = row_on (g.E.Engine.meaning c.args.engine.now) (view c.args.self.now) c.requires.holds (latest c.args.answers.now) c.args.conflict c.numbers-3.result.now (c.numbers-3.ensures ∙ c.row_of-row.ensures) c.requires.live;
 }
@@ -53,12 +38,13 @@ returns g c =
     let a = c.lay_row.ensures.lent in
     let b = c.keep.ensures.lent in
     record {
-      lent = (b.0 ∙ a.0, b.1 ∙ a.1, b.2 ∙ a.2, b.3 ∙ a.3);
-      after = recorded_is s (view c.lay_row.new.self) (view c.keep.new.self) c.args.n (((c.args.n - 1) - s.inputs) * (s.variables + 1)) c.numbers.result.now c.numbers-2.result.now row
-          (its_row m s c.requires.holds answers at c.numbers.result.now (c.numbers.ensures ∙ c.row_of-row.ensures))
-          (its_row m s c.requires.holds answers at c.numbers-2.result.now (c.numbers-2.ensures ∙ c.row_of-row.ensures))
-          (place_same c.args.n s.inputs s.variables) c.lay_row.ensures.after c.keep.ensures.after;
+      becomes = record {
+        lent = (b.0 ∙ a.0, b.1 ∙ a.1, b.2 ∙ a.2, b.3 ∙ a.3);
+        after = recorded_is s (view c.lay_row.new.self) (view c.keep.new.self) c.args.n (((c.args.n - 1) - s.inputs) * (s.variables + 1)) c.numbers.result.now c.numbers-2.result.now row
+            (its_row m s c.requires.holds answers at c.numbers.result.now (c.numbers.ensures ∙ c.row_of-row.ensures))
+            (its_row m s c.requires.holds answers at c.numbers-2.result.now (c.numbers-2.ensures ∙ c.row_of-row.ensures))
+            (place_same c.args.n s.inputs s.variables) c.lay_row.ensures.after c.keep.ensures.after;
+      };
       length = ap length (its_row m s c.requires.holds answers at c.numbers-4.result.now (c.numbers-4.ensures ∙ c.row_of-row.ensures));
       does = c.prefer_all.ensures.does;
-      stays = c.prefer_all.ensures.stays;
     }

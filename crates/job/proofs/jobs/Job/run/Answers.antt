@@ -1,117 +1,93 @@
-use Rattle.std.proofs.Common.{◌≡◌, ℕ, suc, ◌-◌, length, sym, refl, ap, ◌∙◌, subst, arith}
-use Rattle.drup.specs.Backward.{fails}
-use Rattle.drup.specs.Box.{Checks}
+use Rattle.std.proofs.Common.{◌≡◌, length, sym, refl, ap, ◌∙◌, subst}
 use Rattle.engine.specs.Meaning.{Meaning}
-use Rattle.job.specs.History.{machine_of}
 use Rattle.job.specs.Seen.{view}
 use Rattle.job.specs.CheckWalking.{Walked}
 use Rattle.job.proofs.Keeping.{sound}
 use Rattle.job.proofs.CheckFit.{fit}
 use Rattle.job.proofs.CheckFraming.{clauses_framed, framed_twice, wiped_framed}
 use Rattle.job.proofs.CheckOutcomes.{accepts, turns_down}
-use Rattle.job.proofs.CheckWhole.{ended_some, framed_first, large_first, rooms_first, ended_first, ready, walked_holds, idle_after}
+use Rattle.job.proofs.CheckWhole.{framed_first, rooms_first, ended_first, ready, walked_holds, idle_after}
 use Rattle.job.proofs.jobs.Job.run.Goals as goal
 
-pub begin-requires : goal.begin-requires
-begin-requires g c =
-    let j = c.args.self.now in
-    ended_some (view j) (fit (view j) (sound j)) c.requires.allowed.is_ended
-
-pub start-requires : goal.start-requires
-start-requires g c =
+pub walk-walked-requires : goal.walk-walked-requires
+walk-walked-requires g c =
     let j = c.args.self.now in
     let j₁ = c.begin.new.self in
     record {
-      sound = c.requires.sound;
-      shut = c.requires.allowed.shut;
-      large = large_first (view j) (fit (view j) (sound j)) (g.E.Engine.meaning c.args.engine.now) c.requires.allowed (view j₁) (fit (view j₁) (sound j₁)) c.begin.ensures.after;
-    }
-
-pub walk-step-requires : goal.walk-step-requires
-walk-step-requires g c =
-    let j = c.args.self.now in
-    let j₁ = c.begin.new.self in
-    record {
-      sound = c.start.ensures.stays;
-      ready = ready (view j) (fit (view j) (sound j)) (g.E.Engine.meaning c.args.engine.now) c.requires.allowed (view j₁) (fit (view j₁) (sound j₁)) c.begin.ensures.after (g.E.Engine.meaning c.start.new.engine) (record { lemmas = 0; arcs = 0 }) refl refl c.start.ensures.does;
+      ready = ready (view j) (fit (view j) (sound j)) (g.E.Engine.meaning c.args.engine.now) c.requires.allowed (view j₁) (fit (view j₁) (sound j₁)) c.begin.ensures.after (g.E.Engine.meaning c.start.new.engine) c.start.ensures.does;
     }
 
 pub darken-requires : goal.darken-requires
 darken-requires g c =
     let j₁ = c.begin.new.self in
     let s₁ = view j₁ in
-    let s₂ = view c.walk-step.new.self in
-    let m₂ = g.E.Engine.meaning c.walk-step.new.engine in
-    let h = walked_holds s₁ c.walk-step.result s₂ m₂ c.walk-step.new.tally c.walk-step.ensures.walked in
-    let k = clauses_framed s₁ s₂ c.walk-step.ensures.framed in
+    let s₂ = view c.walk-walked.new.self in
+    let m₂ = g.E.Engine.meaning c.walk-walked.new.engine in
+    let h = walked_holds s₁ c.walk-walked.result s₂ m₂ c.walk-walked.ensures.walked in
+    let k = clauses_framed s₁ s₂ c.walk-walked.ensures.framed in
     let l : length m₂.texts ≡ s₁.clauses = ap length h.0.same ∙ (fit s₁ (sound j₁)).all_texts in
     record {
-      sound = c.walk-step.ensures.stays;
       shut = h.0.shut;
       texts = l ∙ sym k;
       level = h.1 ∙ l ∙ sym k;
     }
 
-pub returns-then-step-ne0 : goal.returns-then-step-ne0
-returns-then-step-ne0 g c =
+pub returns-in-Err : goal.returns-in-Err
+returns-in-Err g c =
     let j = c.args.self.now in
     let j₁ = c.begin.new.self in
     let s = view j in
     let s₁ = view j₁ in
-    let s₂ = view c.walk-step.new.self in
+    let s₂ = view c.walk-walked.new.self in
     let m = g.E.Engine.meaning c.args.engine.now in
-    let m₂ = g.E.Engine.meaning c.walk-step.new.engine in
+    let m₂ = g.E.Engine.meaning c.walk-walked.new.engine in
     let m₃ = g.E.Engine.meaning c.darken.new.engine in
     let o₁ = fit s₁ (sound j₁) in
     let f₁ = framed_first s (fit s (sound j)) m c.requires.allowed s₁ o₁ c.begin.ensures.after in
-    let f₂ = framed_twice s s₁ s₂ f₁ c.walk-step.ensures.framed in
-    let h = walked_holds s₁ c.walk-step.result s₂ m₂ c.walk-step.new.tally c.walk-step.ensures.walked in
-    let ne = c.if-step-ne0.true in
-    let e : c.walk-step.result ≡ suc (c.walk-step.result - 1) = omega arith in
+    let f₂ = framed_twice s s₁ s₂ f₁ c.walk-walked.ensures.framed in
+    let h = walked_holds s₁ c.walk-walked.result s₂ m₂ c.walk-walked.ensures.walked in
     let q = ap (λ (x : Meaning). x.answers) c.darken.ensures.does in
     let l₁ = c.begin.ensures.lent in
-    let l₂ = c.walk-step.ensures.lent in
+    let l₂ = c.walk-walked.ensures.lent in
     let l₃ = c.wipe.ensures.lent in
     let l₄ = c.unmark.ensures.lent in
-    let t = turns_down s s₁ f₁ o₁ m₂ m₃ q (suc (c.walk-step.result - 1)) (subst (λ (r : ℕ). Walked s₁ r s₂ m₂ c.walk-step.new.tally) e c.walk-step.ensures.walked) in
+    let t = turns_down s s₁ f₁ o₁ m₂ m₃ q c.in-Err.step (subst (λ r. Walked s₁ r s₂ m₂) c.in-Err.is c.walk-walked.ensures.walked) in
     record {
       lent = (l₄.0 ∙ l₃.0 ∙ l₂.0 ∙ l₁.0, l₄.1 ∙ l₃.1 ∙ l₂.1 ∙ l₁.1, l₄.2 ∙ l₃.2 ∙ l₂.2 ∙ l₁.2, l₄.3 ∙ l₃.3 ∙ l₂.3 ∙ l₁.3);
       comes = (
         wiped_framed s s₂ f₂ (view c.wipe.new.self) (view c.unmark.new.self) c.wipe.ensures.after c.unmark.ensures.after,
-        subst (λ (r : ℕ). Checks (machine_of s) (fails r m₃.answers)) (sym e) t,
+        (c.in-Err.step, refl, t),
       );
       idle = idle_after s s₁ m₂ m₃ f₁ h.0 s₂.clauses (clauses_framed s s₂ f₂) c.darken.ensures.does;
-      stays = c.darken.ensures.stays;
     }
 
-pub returns : goal.returns
-returns g c =
+pub returns-in-Ok : goal.returns-in-Ok
+returns-in-Ok g c =
     let j = c.args.self.now in
     let j₁ = c.begin.new.self in
     let s = view j in
     let s₁ = view j₁ in
-    let s₂ = view c.walk-step.new.self in
+    let s₂ = view c.walk-walked.new.self in
     let m = g.E.Engine.meaning c.args.engine.now in
-    let m₂ = g.E.Engine.meaning c.walk-step.new.engine in
+    let m₂ = g.E.Engine.meaning c.walk-walked.new.engine in
     let m₃ = g.E.Engine.meaning c.darken.new.engine in
     let o = fit s (sound j) in
     let o₁ = fit s₁ (sound j₁) in
     let a = c.requires.allowed in
     let e = c.begin.ensures.after in
     let f₁ = framed_first s o m a s₁ o₁ e in
-    let f₂ = framed_twice s s₁ s₂ f₁ c.walk-step.ensures.framed in
-    let h = walked_holds s₁ c.walk-step.result s₂ m₂ c.walk-step.new.tally c.walk-step.ensures.walked in
+    let f₂ = framed_twice s s₁ s₂ f₁ c.walk-walked.ensures.framed in
+    let h = walked_holds s₁ c.walk-walked.result s₂ m₂ c.walk-walked.ensures.walked in
     let q = ap (λ (x : Meaning). x.answers) c.darken.ensures.does in
     let l₁ = c.begin.ensures.lent in
-    let l₂ = c.walk-step.ensures.lent in
+    let l₂ = c.walk-walked.ensures.lent in
     record {
       lent = (l₂.0 ∙ l₁.0, l₂.1 ∙ l₁.1, l₂.2 ∙ l₁.2, l₂.3 ∙ l₁.3);
       comes = (
-        accepts s s₁ f₁ o₁ m₂ m₃ q s₂ c.walk-step.new.tally _ (ended_first s o m a s₁ o₁ e) (rooms_first s o m a s₁ o₁ e) c.walk-step.ensures.framed
-            (subst (λ (r : ℕ). Walked s₁ r s₂ m₂ c.walk-step.new.tally) c.if-step-ne0.false c.walk-step.ensures.walked)
+        accepts s s₁ f₁ o₁ m₂ m₃ q s₂ c.in-Ok.tally _ (ended_first s o m a s₁ o₁ e) (rooms_first s o m a s₁ o₁ e) c.walk-walked.ensures.framed
+            (subst (λ r. Walked s₁ r s₂ m₂) c.in-Ok.is c.walk-walked.ensures.walked)
             c.kept_inputs.ensures refl refl c.answers.ensures,
         c.answers.ensures,
       );
       idle = idle_after s s₁ m₂ m₃ f₁ h.0 s₂.clauses (clauses_framed s s₂ f₂) c.darken.ensures.does;
-      stays = c.darken.ensures.stays;
     }

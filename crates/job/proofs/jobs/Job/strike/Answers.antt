@@ -21,7 +21,7 @@ returns-then-is_ended c =
     let m = makes s.variables ls x (outcome c.arrange-draft.result) j.range.0 c.in_ok-clause.ensures c.arrange-draft.ensures.outcome in
     let r : Result ℕ JobFault = Err Ended in
     let answer : r ≡ strike_answer s ls = strike_ended s ls x m.is (sym c.if-is_ended.ensures) in
-    record { lent = (refl, refl, refl, refl); answer = answer; after = refl; happens = strike_happens s (sound j) ls r s answer refl }
+    record { becomes = record { lent = (refl, refl, refl, refl); after = refl }; answer = answer; happens = strike_happens s (sound j) ls r s answer refl }
 
 pub returns-in_default : goal.returns-in_default
 returns-in_default c =
@@ -32,7 +32,7 @@ returns-in_default c =
     let m = makes s.variables ls x (outcome c.arrange-draft.result) j.range.0 c.in_ok-clause.ensures c.arrange-draft.ensures.outcome in
     let r : Result ℕ JobFault = Err NoneLive in
     let answer : r ≡ strike_answer s ls = strike_none_live s ls x m.is (sym c.if-is_ended.ensures) c.in_default.ensures in
-    record { lent = (refl, refl, refl, refl); answer = answer; after = refl; happens = strike_happens s (sound j) ls r s answer refl }
+    record { becomes = record { lent = (refl, refl, refl, refl); after = refl }; answer = answer; happens = strike_happens s (sound j) ls r s answer refl }
 
 pub put_strike-requires : goal.put_strike-requires
 put_strike-requires c =
@@ -63,8 +63,7 @@ returns c =
     let after : view c.put_strike.new.self ≡ with_strike true s (copy_in s (arranged ls)) =
     c.put_strike.ensures.after ∙ ap (with_strike true s) (f.0 ∙ ap (copy_in s) m.same) in
     record {
-      lent = c.put_strike.ensures.lent;
+      becomes = record { lent = c.put_strike.ensures.lent; after = after };
       answer = answer;
-      after = after;
       happens = strike_happens s (sound j) ls r (view c.put_strike.new.self) answer after;
     }

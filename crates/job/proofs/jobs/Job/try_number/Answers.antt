@@ -8,7 +8,6 @@ pub try_lemma-requires : goal.try_lemma-requires
 try_lemma-requires g c =
     let j = c.args.self.now in
     record {
-      sound = c.requires.sound;
       idle = c.requires.holds.shut;
       consistent = lemma_consistent (view j) (fit (view j) (sound j)) c.args.n c.requires.numbered.0 c.requires.numbered.1 c.text.result.now c.text.ensures;
     }

@@ -1,41 +1,32 @@
-use Rattle.std.proofs.Common.{◌<◌, length, get_or, set, refl, ap, ◌∙◌, arith}
-use Rattle.std.proofs.lemmas.List.{get_or_default}
-use Rattle.job.proofs.Keeping.{sound}
-use Rattle.job.proofs.CheckMarks.{sound_marked}
-use Rattle.job.proofs.CheckFraming.{unmarked_length}
-use Rattle.job.specs.CheckLists.{unmarked}
+use Rattle.std.proofs.Common.{◌<◌, List, length, get_or, take, set, sym, refl, ap, ◌∙◌, subst, arith}
+use Rattle.std.proofs.lemmas.List.{get_or_default, length-take-le}
 use Rattle.std.proofs.lemmas.List.Edits.{map_over_more}
-use Rattle.job.specs.View.{blank_row}
-use Rattle.job.specs.View.{View, with_rows}
+use Rattle.job.specs.declared.rows.ClauseRow.{ClauseRow}
+use Rattle.job.specs.View.{blank_row, with_rows, bare}
 use Rattle.job.specs.Seen.{view}
-use Rattle.job.specs.View.{bare}
+use Rattle.job.specs.CheckLists.{unmarked}
+use Rattle.job.specs.Sound.{Sound}
+use Rattle.job.proofs.Keeping.{sound, held}
+use Rattle.job.proofs.CheckMarks.{unmarked_all, sound_unmarked}
+use Rattle.job.proofs.CheckFraming.{unmarked_length}
 use Rattle.job.proofs.jobs.Job.unmark.Goals as goal
 
-pub loop-i-preserved : goal.loop-i-preserved
-loop-i-preserved c =
-    let s = view c.args.self.now in
-    let i = c.loop-i.i in
-    let h : i < length s.rows = omega arith in
-    let k : i < length (unmarked i s.rows) = (let e = unmarked_length i s.rows in omega arith) in (
-      c.loop-i.invariant.0,
-      ap (λ (t : View). with_rows (set t.rows i (bare (get_or t.rows i blank_row))) t) c.loop-i.invariant.1
-          ∙ ap (λ r. with_rows r s) (map_over_more bare s.rows (unmarked i s.rows) i (get_or (unmarked i s.rows) i blank_row) h refl (get_or_default (unmarked i s.rows) i blank_row (get_or (unmarked i s.rows) i blank_row) k)),
-    )
+pub loop-row-preserved : goal.loop-row-preserved
+loop-row-preserved c =
+    let j = c.args.self.now in
+    let rows = take j.clauses j.records.now in
+    let i = c.loop-row.row-index in
+    let h : i < length rows = omega arith in
+    let k : i < length (unmarked i rows) = (let e = unmarked_length i rows in omega arith) in
+    ap (λ (r : List ClauseRow). set r i (bare (get_or r i blank_row))) c.loop-row.invariant
+    ∙ map_over_more bare rows (unmarked i rows) i (get_or (unmarked i rows) i blank_row) h refl (get_or_default (unmarked i rows) i blank_row (get_or (unmarked i rows) i blank_row) k)
 
 pub invariant_of-self : goal.invariant_of-self
 invariant_of-self c =
-    let t = view c.loop-i.self in
-    let i = c.loop-i.i in
-    let o = sound_marked t i (bare (get_or t.rows i blank_row)) refl (sound c.loop-i.self) in
-    record {
-      range = o.range;
-      rooms = o.rooms;
-      counts = o.counts;
-      laid = o.laid;
-      rising = o.rising;
-      complete = o.complete;
-      numbered = o.numbered;
-      unended = o.unended;
-      dated = o.dated;
-      ordered = o.ordered;
-    }
+    let j = c.args.self.now in
+    let s = view j in
+    let a = j.rooms.0 in
+    let b = j.counts.1 in
+    let room = length-take-le s.clauses s.rows (omega arith) in
+    let e = unmarked_all s.rows s.clauses c.loop-row.row-index c.loop-row.row-items (omega arith) (omega arith) c.loop-row.invariant in
+    held _ (subst Sound (ap (λ (r : List ClauseRow). with_rows r s) (sym e)) (sound_unmarked s (sound j)))

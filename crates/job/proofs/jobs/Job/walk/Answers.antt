@@ -1,14 +1,14 @@
-use Rattle.std.proofs.Common.{◌≡◌, ℕ, suc, ◌-◌, sym, refl, ◌∙◌, subst, add-one, arith}
+use Rattle.std.proofs.Common.{◌≡◌, ℕ, suc, ◌-◌, Err, sym, refl, ◌∙◌, subst, add-one, arith}
 use Rattle.job.specs.Seen.{view}
 use Rattle.job.specs.CheckWalking.{Walked}
 use Rattle.job.proofs.Keeping.{sound}
 use Rattle.job.proofs.CheckFit.{fit}
 use Rattle.job.proofs.CheckFraming.{holds_framed, rooms_framed, taken_framed}
-use Rattle.job.proofs.CheckOnward.{Going, going_first, going_last, going_on, going_fails, going_next, shows_there, can_raise}
+use Rattle.job.proofs.CheckOnward.{going_first, going_on, going_fails, going_next, shows_there, can_raise}
 use Rattle.job.proofs.jobs.Job.walk.Goals as goal
 
 pub loop-i-init : goal.loop-i-init
-loop-i-init g c = ((refl, refl, refl, refl), going_first (view c.args.self.now) (g.E.Engine.meaning c.args.engine.now) c.args.tally.now c.requires.ready, c.requires.sound)
+loop-i-init g c = ((refl, refl, refl, refl), going_first (view c.args.self.now) (g.E.Engine.meaning c.args.engine.now) c.requires.ready)
 
 pub back-requires : goal.back-requires
 back-requires g c =
@@ -22,7 +22,6 @@ back-requires g c =
     let go = c.loop-i.invariant.1 in
     let t = taken_framed s₀ s go.framed in
     record {
-      sound = c.loop-i.invariant.2;
       holds = holds_framed s₀ s go.framed m go.holds;
       rooms = rooms_framed s₀ s go.framed c.requires.ready.rooms;
       step = omega arith;
@@ -44,7 +43,6 @@ loop-i-preserved g c =
       (b.0 ∙ a.0, b.1 ∙ a.1, b.2 ∙ a.2, b.3 ∙ a.3),
       going_on s₀ o c.requires.ready.rooms k (omega arith) s m c.loop-i.tally (going_next s₀ o c.loop-i.i k e s m c.loop-i.tally c.loop-i.invariant.1)
           (view c.back.new.self) (g.E.Engine.meaning c.back.new.engine) c.back.new.tally c.if-not-back.ensures.goes,
-      c.back.ensures.stays,
     )
 
 pub returns-then-not-back : goal.returns-then-not-back
@@ -63,19 +61,5 @@ returns-then-not-back g c =
     record {
       lent = (b.0 ∙ a.0, b.1 ∙ a.1, b.2 ∙ a.2, b.3 ∙ a.3);
       framed = f.0;
-      walked = subst (λ (r : ℕ). Walked s₀ r (view c.back.new.self) (g.E.Engine.meaning c.back.new.engine) c.back.new.tally) (sym (add-one k)) f.1;
-      stays = c.back.ensures.stays;
-    }
-
-pub returns : goal.returns
-returns g c =
-    let s₀ = view c.args.self.now in
-    let s = view c.loop-i.self in
-    let m = g.E.Engine.meaning c.loop-i.engine in
-    let e : c.loop-i.i ≡ 0 = omega arith in
-    record {
-      lent = c.loop-i.invariant.0;
-      framed = c.loop-i.invariant.1.framed;
-      walked = going_last s₀ s m c.loop-i.tally (subst (λ (j : ℕ). Going s₀ j s m c.loop-i.tally) e c.loop-i.invariant.1);
-      stays = c.loop-i.invariant.2;
+      walked = subst (λ (r : ℕ). Walked s₀ (Err r) (view c.back.new.self) (g.E.Engine.meaning c.back.new.engine)) (sym (add-one k)) f.1;
     }

@@ -6,4 +6,3 @@ abbrev pub invariant-loop-i : goal.invariant-loop-i
 invariant-loop-i g l =
     SameLent l.initial.self l.self
     × Going (view l.initial.self) l.i (view l.self) (g.E.Engine.meaning l.engine) l.tally
-    × g.E.Engine.sound l.engine

@@ -37,9 +37,8 @@ returns-in-Lemma c =
     let after : view c.forget.new.self ≡ without true (view j) (last_step (view j)) =
     c.forget.ensures.after ∙ ap (without true (view j)) (sym c.in-Lemma.is) in
     record {
-      lent = c.forget.ensures.lent;
+      becomes = record { lent = c.forget.ensures.lent; after = after };
       answer = answer;
-      after = after;
       happens = withdraw_happens (view j) (sound j) r (view c.forget.new.self) answer after;
     }
 
@@ -52,8 +51,7 @@ returns-in-Strike c =
     let after : view c.revive.new.self ≡ without true (view j) (last_step (view j)) =
     c.revive.ensures.after ∙ ap (without true (view j)) (sym c.in-Strike.is) in
     record {
-      lent = c.revive.ensures.lent;
+      becomes = record { lent = c.revive.ensures.lent; after = after };
       answer = answer;
-      after = after;
       happens = withdraw_happens (view j) (sound j) r (view c.revive.new.self) answer after;
     }
