@@ -2,6 +2,7 @@
 ghost use Rattle.std.specs.Prelude.{◌≡◌};
 ghost use Rattle.cnf.specs.Literals.{complement, earlier};
 ghost use Rattle.cnf.specs.Order.{before};
+ghost use Rattle.cnf.specs.Arranging.{outside};
 ghost use Rattle.cnf.specs.declared.literals.Literal.{Literal};
 ghost use Rattle.std.proofs.Common.{rules};
 
@@ -23,6 +24,13 @@ impl Literal {
             negated: !self.negated,
             ..self
         }
+    }
+
+    /// Whether the variable is 0 or beyond the highest.
+    pub fn is_outside(self, highest: u16) -> bool
+        ensures { result ≡ outside highest self }
+    {
+        self.variable == 0 || highest < self.variable
     }
 }
 

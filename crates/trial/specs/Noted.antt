@@ -1,12 +1,9 @@
 -- The answers that a trial has noted.
 use Rattle.std.specs.Prelude.{List, reverse}
 use Rattle.cnf.specs.declared.literals.Forced.{Forced}
-use Rattle.trial.specs.declared.answers.Answers.{Answers}
-
--- all answers, the oldest first
-abbrev pub noted : Answers → List Forced
-noted a = a.entries.items
+use Rattle.engine.specs.declared.trails.Trail.{Trail}
+use Rattle.engine.specs.Trails.{entries_of}
 
 -- all answers, the latest first
-abbrev pub latest : Answers → List Forced
-latest a = reverse (noted a)
+abbrev pub latest : Trail → List Forced
+latest answers = reverse (entries_of answers)

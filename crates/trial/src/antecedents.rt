@@ -2,11 +2,11 @@
 ghost use Rattle.std.specs.Prelude.{◌≡◌};
 ghost use Rattle.trial.specs.Gathering.{numbers_of};
 
-use crate::answers::MOST_ANSWERS;
 use arrayvec::ArrayVec;
+use cnf::drafts::MOST_LITERALS;
 
-/// The clause of the conflict is an antecedent, and that of each answer may be.
-const MOST_ANTECEDENTS: usize = MOST_ANSWERS + 1;
+/// The clause of the conflict is an antecedent, and that of each answer may be; a variable is answered at most once.
+const MOST_ANTECEDENTS: usize = MOST_LITERALS + 1;
 
 /// The numbers of a lemma's antecedents, in order of derivation.
 #[derive(Drop)]

@@ -1,7 +1,6 @@
 //! A trial of any clause, over any engine.
 ghost use Rattle.trial.specs.Trials.{Tries};
 
-use crate::answers::Answers;
 use crate::tries::try_lemma;
 use cnf::drafts::MOST_VARIABLES;
 use cnf::drafts::arranging::arrange;
@@ -19,6 +18,5 @@ pub fn try_clause<E: Engine>(engine: &mut E, literals: &[Literal]) -> Result<boo
     }
     let draft = arrange(MOST_VARIABLES, literals);
     let clause = draft.clause()?;
-    let mut answers = Answers::new();
-    Ok(try_lemma(engine, clause, &mut answers).is_some())
+    Ok(try_lemma(engine, clause).conflict.is_some())
 }

@@ -2,7 +2,6 @@
 //! is a conflict or nothing more. A conflict gives the row of the lemma's antecedents.
 #![tactic(auto)]
 
-pub mod answers;
 pub mod antecedents;
 pub mod clauses;
 pub mod rows;

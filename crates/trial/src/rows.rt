@@ -8,12 +8,12 @@ ghost use Rattle.trial.specs.Numbered.{Numbered};
 ghost use Rattle.trial.specs.Seeing.{sees};
 ghost use Rattle.trial.specs.Gathering.{numbers_of, AllWithin, AllKnown};
 
-use crate::answers::Answers;
 use crate::antecedents::Antecedents;
 use crate::seen::Seen;
 use crate::texts::Texts;
 use arrayvec::ArrayVec;
 use cnf::literals::Forced;
+use engine::trails::Trail;
 
 /// Whether the clause that forced this literal is an antecedent: the literal's complement was seen.
 fn enters(seen: &Seen, forced: Forced) -> bool
@@ -26,7 +26,7 @@ fn enters(seen: &Seen, forced: Forced) -> bool
 /// The antecedents of a lemma whose trial ended in a conflict at the clause with this number. That clause comes last;
 /// from the latest answer back, the clause that forced a literal is put ahead if the literal's complement stands in a
 /// clause of the row.
-pub fn row_of<T: Texts>(texts: &T, answers: &Answers, conflict: u16) -> Antecedents
+pub fn row_of<T: Texts>(texts: &T, answers: &Trail, conflict: u16) -> Antecedents
     requires within { AllWithin (T.clauses texts.now) }
     requires known { AllKnown (T.clauses texts.now) (latest answers.now) }
     requires numbered { Numbered (T.clauses texts.now) conflict }

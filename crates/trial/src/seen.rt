@@ -7,11 +7,11 @@ ghost use Rattle.drup.specs.Backward.{holds};
 ghost use Rattle.engine.specs.Meaning.{highest};
 ghost use Rattle.trial.specs.Seeing.{sees};
 
-use cnf::drafts::MOST_VARIABLES;
+use cnf::drafts::MOST_LITERALS;
 use cnf::literals::Literal;
 
 /// The variable 0 has a place too, so that a variable is its own index.
-const PLACES: usize = MOST_VARIABLES as usize + 1;
+const PLACES: usize = MOST_LITERALS + 1;
 
 /// Of a variable whether its positive literal was seen, and whether its negative one was.
 #[derive(Clone, Copy, Default)]

@@ -16,5 +16,5 @@ returns g c =
     rw c.is_some.ensures
     (tried (g.E.Engine.meaning c.args.engine.now) (g.E.Engine.laws c.args.engine.now) (sym c.is_open.ensures ∙ c.if-is_open.false)
     c.args.literals.now c.in_ok-clause.clause.now (sym (c.in_ok-clause.ensures ∙ c.arrange-draft.ensures.outcome))
-    (latest c.try_lemma.new.answers) c.try_lemma.result (g.E.Engine.meaning c.try_lemma.new.engine)
+    (latest c.try_lemma.result.answers) c.try_lemma.result.conflict (g.E.Engine.meaning c.try_lemma.new.engine)
     c.try_lemma.ensures.right c.try_lemma.ensures.does c.try_lemma.ensures.few)
