@@ -36,7 +36,7 @@ impl Text for Literal {
         if self.negated {
             page.add(b"-");
         }
-        (self.variable as u64).add_to(page);
+        u64::from(self.variable).add_to(page);
     }
 }
 
@@ -82,7 +82,7 @@ impl PairLine<'static> {
     {
         PairLine {
             word: b"refused ",
-            first: number as u64,
+            first: u64::from(number),
             second: place as u64,
         }
     }
@@ -111,7 +111,7 @@ impl Text for FormulaText<'_> {
     ghost bytes = { λ text. formula_text text.variables (map vec_items text.clauses.now) };
 
     fn add_to(&self, page: &mut Page<'_>) {
-        PairLine::heading(self.variables as u64, self.clauses.len() as u64).add_to(page);
+        PairLine::heading(u64::from(self.variables), self.clauses.len() as u64).add_to(page);
         for clause in self.clauses {
             ClauseLine(clause).add_to(page);
         }

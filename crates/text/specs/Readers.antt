@@ -62,7 +62,8 @@ pub record Takes (r : Result Step TextFault) (was now : FormulaReader) (move : M
   pub answer : told_by r now ≡ move
   pub state : state_of now ≡ settled move (state_of was)
 
--- the same words are left of the same text
-pub record SameWords (was now : FormulaReader) : Type 0 where
+-- a reader whose word is taken off already: it takes this move, and the same words are left of the same text
+pub record MovesOn (r : Result Step TextFault) (was now : FormulaReader) (move : Moved) : Type 0 where
+  pub takes : Takes r was now move
   pub words : words_left now ≡ words_left was
   pub extent : extent_of now ≡ extent_of was

@@ -8,21 +8,26 @@ use thiserror::Error;
 
 /// What is wrong with a text. A place is the first byte of the word at fault, or the text's length at its end.
 #[derive(Clone, Copy, PartialEq, Eq, Debug, Error)]
-#[error("refused {} {}", self.number(), self.place())]
 pub enum TextFault {
     /// A word that is not allowed there.
+    #[error("the word at byte {place} is not allowed there")]
     Word { place: usize },
     /// The text ends in its heading, or has another number of clauses than its heading says.
+    #[error("the text and its heading do not agree at byte {place}")]
     Count { place: usize },
     /// The text ends inside a clause.
+    #[error("the text ends inside a clause at byte {place}")]
     Unfinished { place: usize },
     /// What is wrong with the literals of a clause.
+    #[error("the literal at byte {} is out of range, or its variable came before", .0.place())]
     Clause(ClauseFault),
     /// The heading has more variables than any job can have.
+    #[error("the heading has too many variables")]
     Variables,
 }
 
 /// A text's fault carries the clause's fault whole.
+// By hand, since contracts name the fault that `?` makes, and a derived From has none.
 impl From<ClauseFault> for TextFault {
     ghost from_gives = { λ whole r. r ≡ Clause whole };
 

@@ -3,7 +3,7 @@ ghost use Rattle.std.specs.Prelude.{◌≡◌, [], length, Ok};
 ghost use Rattle.std.specs.Result.{result_unwrap_or};
 ghost use Rattle.words.specs.Texts.{words_of, rest_of};
 ghost use Rattle.text.specs.Formulas.{before, clauses, between, inside, nothing, variable_count, heading, moves, moved, literal_of, capped, counted};
-ghost use Rattle.text.specs.Readers.{standing, state_of, words_left, extent_of, move_of, Takes, SameWords};
+ghost use Rattle.text.specs.Readers.{standing, state_of, words_left, extent_of, move_of, Takes, MovesOn};
 ghost use Rattle.words.specs.Lexis.{number};
 ghost use Rattle.text.specs.declared.formulas.Position.TheVariants.{Heading};
 ghost use Rattle.cnf.specs.Drafts.{outcome};
@@ -60,8 +60,7 @@ impl<'a> FormulaReader<'a> {
 
     /// Goes on in the heading.
     fn go(&mut self, due: Due) -> Step
-        ensures takes { Takes (Ok result) self.old self.new (moves (standing (Heading due) self.old.variables (outcome self.old.draft)) nothing) }
-        ensures words { SameWords self.old self.new }
+        ensures { MovesOn (Ok result) self.old self.new (moves (standing (Heading due) self.old.variables (outcome self.old.draft)) nothing) }
     {
         self.position = Position::Heading(due);
         Step::More
@@ -69,8 +68,7 @@ impl<'a> FormulaReader<'a> {
 
     /// Takes the number of variables.
     fn take_variables(&mut self, w: &[u8], place: usize) -> Step
-        ensures takes { Takes (Ok result) self.old self.new (moves (clauses (capped w.now)) (variable_count (capped w.now) place)) }
-        ensures words { SameWords self.old self.new }
+        ensures { MovesOn (Ok result) self.old self.new (moves (clauses (capped w.now)) (variable_count (capped w.now) place)) }
     {
         let count = value16(w);
         self.position = Position::Heading(Due::Clauses);
@@ -81,8 +79,7 @@ impl<'a> FormulaReader<'a> {
 
     /// Takes the number of clauses.
     fn take_clauses(&mut self, w: &[u8]) -> Step
-        ensures takes { Takes (Ok result) self.old self.new (moves (between self.old.variables (counted w.now)) (heading self.old.variables)) }
-        ensures words { SameWords self.old self.new }
+        ensures { MovesOn (Ok result) self.old self.new (moves (between self.old.variables (counted w.now)) (heading self.old.variables)) }
     {
         let remaining = value64(w);
         self.position = Position::Between { remaining };
@@ -91,8 +88,7 @@ impl<'a> FormulaReader<'a> {
 
     /// Takes a number inside a clause: the word 0, which closes it, or one of its literals.
     fn take_number(&mut self, remaining: u64, w: &[u8], place: usize) -> Result<Step, TextFault>
-        ensures takes { Takes result self.old self.new (moved (inside self.old.variables remaining (outcome self.old.draft)) (number w.now) place) }
-        ensures words { SameWords self.old self.new }
+        ensures { MovesOn result self.old self.new (moved (inside self.old.variables remaining (outcome self.old.draft)) (number w.now) place) }
     {
         if is_zero(w) {
             self.draft.clause()?;

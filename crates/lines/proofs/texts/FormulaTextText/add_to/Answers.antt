@@ -1,7 +1,7 @@
-use Rattle.std.proofs.Common.{vec_items, sym, ap}
+use Rattle.std.proofs.Common.{length, vec_items, sym, ap, ◌∙◌}
 use Rattle.std.specs.List.{flat_map}
 use Rattle.std.proofs.lemmas.List.{take_all}
-use Rattle.lines.specs.Texts.{clause_line}
+use Rattle.lines.specs.Texts.{clause_line, heading_line}
 use Rattle.lines.proofs.Additions.{adds_then, adds_as}
 use Rattle.lines.proofs.Joins.{joined_read, formula_of}
 use Rattle.lines.proofs.texts.FormulaTextText.add_to.Goals as goal
@@ -16,4 +16,5 @@ pub returns : goal.returns
 returns c =
     let text = c.args.self.now in
     let all = ap (flat_map (λ v. clause_line (vec_items v))) (take_all c.loop-clause.clause-index text.clauses.now c.loop-clause-test.false) in
-    adds_as (sym (formula_of text.variables vec_items text.clauses.now)) (adds_then (adds_as c.heading.ensures c.add_to.ensures) (adds_as all c.loop-clause.invariant))
+    let heading = c.heading.ensures ∙ ap (λ v. heading_line v (length text.clauses.now)) c.from.ensures in
+    adds_as (sym (formula_of text.variables vec_items text.clauses.now)) (adds_then (adds_as heading c.add_to.ensures) (adds_as all c.loop-clause.invariant))
