@@ -70,6 +70,7 @@ impl<P: Engine, R: Engine> Sides<P, R> {
         requires linked { self.old.linked ≡ true }
         ensures turns { Turns P.meaning R.meaning number (λ m. no_off m number) (with_mark number false) self.old result self.new }
     {
+        // By `match`: of a closure that `or_else` doesn't call, no contract says that it leaves the rest as it was.
         match self.preferred.off(number) {
             Ok(()) => Ok(()),
             Err(_) => self.rest.off(number),

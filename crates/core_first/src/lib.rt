@@ -3,9 +3,8 @@
 
 ghost use Rattle.core_first.specs.CoreSides.{core_meaning, Whole};
 
+use engine::books::Books;
 use engine::contract::Engine;
-use engine::limits::Room;
-use engine::sessions::Session;
 
 mod asking;
 mod both;
@@ -25,7 +24,6 @@ struct Sides<P, R> {
 #[derive(Drop)]
 pub struct CoreFirst<P: Engine, R: Engine> {
     sides: Sides<P, R>,
-    room: Room,
-    session: Session,
-    ghost whole: { Whole P.meaning R.meaning sides room (core_meaning P.meaning R.meaning sides room session) },
+    books: Books,
+    ghost whole: { Whole P.meaning R.meaning sides books.room (core_meaning P.meaning R.meaning sides books.room books.session) },
 }

@@ -6,10 +6,9 @@ ghost use Rattle.core_first.specs.Core.{no_core};
 ghost use Rattle.core_first.specs.CoreSides.{LeftAlone, core_meaning};
 
 use crate::{CoreFirst, Sides};
+use engine::books::Books;
 use engine::contract::Engine;
 use engine::faults::EngineFault;
-use engine::limits::Room;
-use engine::sessions::Session;
 
 impl<P: Engine, R: Engine> CoreFirst<P, R> {
     /// Whether the two engines can be sides: neither is in an open trial.
@@ -25,7 +24,7 @@ impl<P: Engine, R: Engine> CoreFirst<P, R> {
     /// An empty engine over both, which it clears, with the smaller of their limits. Where one of them is in an open
     /// trial its limits are 0, and it leaves both alone for good.
     pub fn new(preferred: P, rest: R) -> CoreFirst<P, R>
-        ensures means { core_meaning P.meaning R.meaning result.sides result.room result.session ≡ made (no_core (P.meaning preferred) (R.meaning rest)) (min (P.meaning preferred).text_limit (R.meaning rest).text_limit) (min (P.meaning preferred).literal_limit (R.meaning rest).literal_limit) }
+        ensures means { core_meaning P.meaning R.meaning result.sides result.books.room result.books.session ≡ made (no_core (P.meaning preferred) (R.meaning rest)) (min (P.meaning preferred).text_limit (R.meaning rest).text_limit) (min (P.meaning preferred).literal_limit (R.meaning rest).literal_limit) }
         ensures alone { no_core (P.meaning preferred) (R.meaning rest) ≡ Some TrialOpen → LeftAlone preferred rest result.sides }
     {
         let linked = CoreFirst::fits(&preferred, &rest).is_ok();
@@ -36,8 +35,7 @@ impl<P: Engine, R: Engine> CoreFirst<P, R> {
         };
         sides.clear();
         CoreFirst {
-            room: Room::new(sides.limits()),
-            session: Session::new(),
+            books: Books::new(sides.limits()),
             sides,
         }
     }

@@ -17,52 +17,49 @@ use engine::trials::{Key, Trial};
 impl<P: Engine, R: Engine> CoreFirst<P, R> {
     /// Whether a text of this number can be turned on or off.
     fn can_turn(&self, number: u16) -> Result<(), EngineFault>
-        ensures { result ≡ judged (no_turn (core_meaning P.meaning R.meaning self.now.sides self.now.room self.now.session) number) }
+        ensures { result ≡ judged (no_turn (core_meaning P.meaning R.meaning self.now.sides self.now.books.room self.now.books.session) number) }
     {
-        self.session.shut()?;
-        self.room.place(number)?;
+        self.books.place(number)?;
         Ok(())
     }
 }
 
 impl<P: Engine, R: Engine> Engine for CoreFirst<P, R> {
-    ghost meaning = { λ c. core_meaning P.meaning R.meaning c.sides c.room c.session };
+    ghost meaning = { λ c. core_meaning P.meaning R.meaning c.sides c.books.room c.books.session };
 
-    ghost laws = { λ c. core_laws P.meaning R.meaning P.laws c.sides c.room c.session c.whole };
+    ghost laws = { λ c. core_laws P.meaning R.meaning P.laws c.sides c.books.room c.books.session c.whole };
 
     fn is_open(&self) -> bool {
-        self.session.is_open()
+        self.books.session.is_open()
     }
 
     fn answers(&self) -> u32 {
-        self.session.answers()
+        self.books.session.answers()
     }
 
     fn text_limit(&self) -> u16 {
-        self.room.limits().texts
+        self.books.room.limits().texts
     }
 
     fn literal_limit(&self) -> u16 {
-        self.room.limits().literals
+        self.books.room.limits().literals
     }
 
     fn clear(&mut self) -> Result<(), EngineFault> {
-        self.session.shut()?;
+        self.books.clear()?;
         self.sides.clear();
-        self.room.clear();
-        self.session.restart();
         Ok(())
     }
 
     fn put(&mut self, literals: &[Literal]) -> Result<(), EngineFault> {
-        self.session.shut()?;
+        self.books.session.ensure_shut()?;
         let draft = arrange(MOST_VARIABLES, literals);
         let text = draft.clause()?;
-        if !self.room.has(text.len()) {
+        if !self.books.room.has(text.len()) {
             return Err(EngineFault::Full);
         }
         self.sides.put(literals);
-        self.room.take(text.len());
+        self.books.room.take(text.len());
         Ok(())
     }
 
@@ -82,26 +79,26 @@ impl<P: Engine, R: Engine> Engine for CoreFirst<P, R> {
     }
 
     fn begin(&mut self, key: &Key) -> Result<(), EngineFault> {
-        self.session.begin()?;
+        self.books.session.begin()?;
         self.sides.begin(key);
         Ok(())
     }
 
     fn assume(&mut self, trial: &Trial, literal: Literal) -> Result<(), EngineFault> {
-        self.session.assume(literal)?;
+        self.books.session.assume(literal)?;
         self.sides.assume(trial, literal);
         Ok(())
     }
 
     fn next(&mut self, trial: &Trial) -> Result<Answer, EngineFault> {
-        self.session.opened()?;
+        self.books.session.ensure_open()?;
         let answer = self.sides.next(trial);
-        self.session.note(answer);
+        self.books.session.note(answer);
         Ok(answer)
     }
 
     fn finish(&mut self, key: &Key) -> Result<(), EngineFault> {
-        self.session.finish()?;
+        self.books.session.finish()?;
         self.sides.finish(key);
         Ok(())
     }

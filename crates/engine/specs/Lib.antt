@@ -5,3 +5,4 @@ pub mod Limits
 pub mod Looks
 pub mod Trails
 pub mod Sessions
+pub mod Books

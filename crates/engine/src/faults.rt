@@ -31,6 +31,7 @@ pub enum EngineFault {
 }
 
 /// An engine's fault carries the clause's fault whole.
+// By hand, since contracts name the fault that `?` makes, and a derived From has none.
 impl From<ClauseFault> for EngineFault {
     ghost from_gives = { λ fault r. r ≡ Clause fault };
 

@@ -3,6 +3,7 @@
 #![tactic(auto)]
 
 pub mod answers;
+pub mod books;
 pub mod calls;
 pub mod contract;
 pub mod faults;

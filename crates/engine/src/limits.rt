@@ -19,6 +19,7 @@ pub struct Limits {
 
 impl Limits {
     /// Whether lists of so many text records and so many literal places serve these limits.
+    // A job's `fits` is alike in its shape, with other bounds and other faults.
     pub fn fit(self, records: usize, places: usize) -> Result<(), EngineFault>
         ensures { result ≡ judged (no_making self.texts self.literals records places) }
     {

@@ -61,7 +61,7 @@ impl Session {
     }
 
     /// Refuses while a trial is open.
-    pub fn shut(&self) -> Result<(), EngineFault>
+    pub fn ensure_shut(&self) -> Result<(), EngineFault>
         ensures { (m : Meaning) → result ≡ judged (shut (in_session self.now m)) }
     {
         if self.is_open() {
@@ -71,7 +71,7 @@ impl Session {
     }
 
     /// Refuses while no trial is open.
-    pub fn opened(&self) -> Result<(), EngineFault>
+    pub fn ensure_open(&self) -> Result<(), EngineFault>
         ensures { (m : Meaning) → result ≡ judged (no_trial (in_session self.now m)) }
     {
         if !self.is_open() {
@@ -84,7 +84,7 @@ impl Session {
     pub fn begin(&mut self) -> Result<(), EngineFault>
         ensures { (m : Meaning) → Opens (in_session self.old m) result (in_session self.new m) }
     {
-        self.shut()?;
+        self.ensure_shut()?;
         self.trail = Some(Trail::new());
         Ok(())
     }
@@ -93,10 +93,8 @@ impl Session {
     pub fn assume(&mut self, literal: Literal) -> Result<(), EngineFault>
         ensures { (m : Meaning) → Assumes (in_session self.old m) literal result (in_session self.new m) }
     {
-        let Some(trail) = &mut self.trail else {
-            return Err(EngineFault::NoTrial);
-        };
-        if literal.variable == 0 || literal.variable > MOST_VARIABLES {
+        let trail = self.trail.as_mut().ok_or(EngineFault::NoTrial)?;
+        if literal.is_outside(MOST_VARIABLES) {
             return Err(EngineFault::Clause(ClauseFault::OutOfRange { place: 0 }));
         }
         if has_value(trail.entries(), literal) {
@@ -123,7 +121,7 @@ impl Session {
     pub fn finish(&mut self) -> Result<(), EngineFault>
         ensures { (m : Meaning) → Ends (in_session self.old m) result (in_session self.new m) }
     {
-        self.opened()?;
+        self.ensure_open()?;
         self.trail = None;
         Ok(())
     }

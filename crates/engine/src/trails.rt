@@ -1,17 +1,14 @@
 //! The trail of a trial.
-ghost use Rattle.std.specs.Prelude.{◌≡◌, ◌<◌, [], ◌∷◌, ◌++◌, length};
+ghost use Rattle.std.specs.Prelude.{◌≡◌, ◌<◌, ◌≤◌, [], ◌∷◌, ◌++◌, length};
 
 use arrayvec::ArrayVec;
-use cnf::drafts::MOST_VARIABLES;
+use cnf::drafts::MOST_LITERALS;
 use cnf::literals::Forced;
-
-/// A variable stands on a trail at most once.
-const PLACES: usize = MOST_VARIABLES as usize;
 
 /// Literals with the number of the text that forced each, or 0 if it was assumed: room for as many as there are variables.
 #[derive(Clone, Drop)]
 pub struct Trail {
-    entries: ArrayVec<Forced, PLACES>,
+    entries: ArrayVec<Forced, MOST_LITERALS>,
 }
 
 impl Trail {
@@ -35,7 +32,8 @@ impl Trail {
 
     /// What stands on the trail, oldest first.
     pub fn entries(&self) -> &[Forced]
-        ensures { result.now ≡ entries_of self.now }
+        ensures all { result.now ≡ entries_of self.now }
+        ensures few { length result.now ≤ 512 }
     {
         &self.entries
     }

@@ -98,15 +98,15 @@ module _ (rows : List TextRow) (places after : List Literal) (count used : ℕ) 
 
 -- the rows and places of an engine with one text more, which is off
 pub record OneMore (s : Scanning) (text : Clause) (rows : List TextRow) (places : List Literal) (count used : ℕ) : Type 0 where
-  pub texts : texts_in rows places count ≡ texts_in s.rows.now s.places.now s.room.texts ++ text ∷ []
-  pub marks : marks_in rows count ≡ marks_in s.rows.now s.room.texts ++ false ∷ []
+  pub texts : texts_in rows places count ≡ texts_in s.rows.now s.places.now s.books.room.texts ++ text ∷ []
+  pub marks : marks_in rows count ≡ marks_in s.rows.now s.books.room.texts ++ false ∷ []
   pub placed : Placed rows count used
   pub counted : literals (texts_in rows places count) ≡ used
   pub rising : AllRising (texts_in rows places count)
 
 -- a text that was copied behind the literals in use
-module _ (s : Scanning) (text copied : List Literal) (start : ℕ) (is : copied ≡ text) (es : start ≡ s.room.literals)
-    (fits : s.room.literals + length text ≤ s.room.limits.literals) where
+module _ (s : Scanning) (text copied : List Literal) (start : ℕ) (is : copied ≡ text) (es : start ≡ s.books.room.literals)
+    (fits : s.books.room.literals + length text ≤ s.books.room.limits.literals) where
   abbrev pub after : List Literal
   after = put_mid start (start + length text - start) s.places.now copied
 
@@ -116,10 +116,10 @@ module _ (s : Scanning) (text copied : List Literal) (start : ℕ) (is : copied 
   within : start + length text ≤ length s.places.now
   within = omega (arith, s.served)
 
-  front : take s.room.literals after ≡ take s.room.literals s.places.now
-  front = take-put_mid_below start (start + length text - start) s.places.now copied s.room.literals (omega arith) (omega (arith, within))
+  front : take s.books.room.literals after ≡ take s.books.room.literals s.places.now
+  front = take-put_mid_below start (start + length text - start) s.places.now copied s.books.room.literals (omega arith) (omega (arith, within))
 
-  added : text_at after s.room.literals (length text) ≡ text
+  added : text_at after s.books.room.literals (length text) ≡ text
   added =
       let e : length text ≡ start + length text - start = omega arith in
       (λ i. take (e i) (drop (sym es i) after))
@@ -136,37 +136,37 @@ module _ (s : Scanning) (text copied : List Literal) (start : ℕ) (is : copied 
       let f = length-take-le start s.places.now (omega (arith, within)) in
       omega (arith, long, within)
 
-  pub texts_kept : texts_in s.rows.now after s.room.texts ≡ texts_in s.rows.now s.places.now s.room.texts
-  texts_kept = texts_same s.rows.now after s.places.now s.room.texts s.room.literals s.placed front
+  pub texts_kept : texts_in s.rows.now after s.books.room.texts ≡ texts_in s.rows.now s.places.now s.books.room.texts
+  texts_kept = texts_same s.rows.now after s.places.now s.books.room.texts s.books.room.literals s.placed front
 
   -- with its row, one text more counts
-  module _ (room : s.room.texts < s.room.limits.texts) (clause : IsClause highest text) (at count used : ℕ) (ea : at ≡ s.room.texts)
-      (ec : count ≡ s.room.texts + 1) (eu : used ≡ s.room.literals + length text) where
+  module _ (room : s.books.room.texts < s.books.room.limits.texts) (clause : IsClause highest text) (at count used : ℕ) (ea : at ≡ s.books.room.texts)
+      (ec : count ≡ s.books.room.texts + 1) (eu : used ≡ s.books.room.literals + length text) where
     abbrev rows_after : List TextRow
     rows_after = set s.rows.now at (record { start = start; length = length text; on = false })
 
-    below : s.room.texts < length s.rows.now
+    below : s.books.room.texts < length s.rows.now
     below = omega (arith, s.served)
 
-    texts_after : texts_in rows_after after count ≡ texts_in s.rows.now s.places.now s.room.texts ++ text ∷ []
+    texts_after : texts_in rows_after after count ≡ texts_in s.rows.now s.places.now s.books.room.texts ++ text ∷ []
     texts_after =
         (λ i. texts_in (set s.rows.now (ea i) (record { start = es i; length = length text; on = false })) after (ec i))
-        ∙ texts_stored s.rows.now s.places.now after s.room.texts s.room.literals text s.placed front added below
+        ∙ texts_stored s.rows.now s.places.now after s.books.room.texts s.books.room.literals text s.placed front added below
 
     pub one_more : OneMore s text rows_after after count used
     one_more = record {
       texts = texts_after;
       marks = (λ i. marks_in (set s.rows.now (ea i) (record { start = es i; length = length text; on = false })) (ec i))
-          ∙ marks_stored s.rows.now s.places.now after s.room.texts s.room.literals text s.placed front added below;
+          ∙ marks_stored s.rows.now s.places.now after s.books.room.texts s.books.room.literals text s.placed front added below;
       placed =
           subst₃ (λ (rs : List TextRow) (k u : ℕ). Placed rs k u)
           (λ i. set s.rows.now (sym ea i) (record { start = sym es i; length = length text; on = false })) (sym ec) (sym eu)
-          (placed_stored s.rows.now s.places.now after s.room.texts s.room.literals text s.placed front added below);
+          (placed_stored s.rows.now s.places.now after s.books.room.texts s.books.room.literals text s.placed front added below);
       counted =
-          ap literals texts_after ∙ literals_push (texts_in s.rows.now s.places.now s.room.texts) text
+          ap literals texts_after ∙ literals_push (texts_in s.rows.now s.places.now s.books.room.texts) text
           ∙ ap (λ (n : ℕ). n + length text) s.counted ∙ sym eu;
       rising =
           ap (list_all (ascending 0 highest)) texts_after
-          ∙ list_all-append (ascending 0 highest) (texts_in s.rows.now s.places.now s.room.texts) (text ∷ [])
+          ∙ list_all-append (ascending 0 highest) (texts_in s.rows.now s.places.now s.books.room.texts) (text ∷ [])
           ∙ and_from _ _ s.rising (and_from _ _ (clause_ascending highest text clause) refl);
     }

@@ -1,6 +1,7 @@
 -- What a scanning engine reads of its texts.
-use Rattle.std.proofs.Common.{◌≡◌, ℕ, ◌-◌, ◌<◌, ◌≤◌, Bool, true, false, cond, ◌||◌, eqb, ltb, length, get_or, Some, None, Ok, Err, Option, Result, sym, refl, ◌∙◌, subst, arith}
+use Rattle.std.proofs.Common.{◌≡◌, ℕ, ◌-◌, ◌<◌, ◌≤◌, Bool, true, false, cond, ◌||◌, eqb, ltb, List, length, get_or, Some, None, Ok, Err, Option, Result, sym, refl, ap, ◌∙◌, subst, arith}
 use mathlib.Core.Bool.{false≢true}
+use denote.Ref.{Bor}
 use Rattle.std.specs.Prelude.{MatchBool, MatchOption}
 use Rattle.std.specs.Result.{result_ok}
 use Rattle.cnf.specs.declared.literals.Literal.{Literal}
@@ -33,27 +34,27 @@ place_found texts n p h =
     go false h = (refl, same_Some p (n - 1) h)
 
 module _ (s : Scanning) where
-  enough : s.room.texts ≤ length s.rows.now
-  enough = omega (arith, s.room.few, s.served)
+  enough : s.books.room.texts ≤ length s.rows.now
+  enough = omega (arith, s.books.room.few, s.served)
 
-  module _ (n : ℕ) (low : 1 ≤ n) (high : n ≤ s.room.texts) where
+  module _ (n : ℕ) (low : 1 ≤ n) (high : n ≤ s.books.room.texts) where
     pub on_is : is_on (scan_meaning s) n ≡ (get_or s.rows.now (n - 1) blank_row).on
-    on_is = mark_at s.rows.now s.room.texts enough n low high
+    on_is = mark_at s.rows.now s.books.room.texts enough n low high
 
     pub text_is : text_of (scan_meaning s) n ≡ stored_text s.places.now (get_or s.rows.now (n - 1) blank_row)
-    text_is = text_at_lem s.rows.now s.room.texts enough s.places.now n low high
+    text_is = text_at_lem s.rows.now s.books.room.texts enough s.places.now n low high
 
   -- no number beyond the texts is on
-  pub on_low : (n : ℕ) → On (scan_meaning s) n → (1 ≤ n) × (n ≤ s.room.texts)
+  pub on_low : (n : ℕ) → On (scan_meaning s) n → (1 ≤ n) × (n ≤ s.books.room.texts)
   on_low n o = let k = texts_length s in let w = on_within (scan_meaning s) (scan_laws s) n o in (omega arith, omega arith)
 
   -- the first number from 1 on is the lowest of all
-  pub first_false : (r : Option ℕ) → MatchOption r ((k : ℕ) → 1 ≤ k → k ≤ s.room.texts → FalseAt (scan_meaning s) k → ⊥)
+  pub first_false : (r : Option ℕ) → MatchOption r ((k : ℕ) → 1 ≤ k → k ≤ s.books.room.texts → FalseAt (scan_meaning s) k → ⊥)
       (λ i. FalseAt (scan_meaning s) i × ((k : ℕ) → 1 ≤ k → k < i → FalseAt (scan_meaning s) k → ⊥)) → LowestFalse (scan_meaning s) r
   first_false None h = λ k f. let w = on_low k f.0 in h k w.0 w.1 f
   first_false (Some i) h = (h.0, λ k l f. h.1 k (on_low k f.0).0 l f)
 
-  pub first_forcing : (r : Option Forced) → MatchOption r ((k : ℕ) → 1 ≤ k → k ≤ s.room.texts → (l : Literal) → ForcesAt (scan_meaning s) k l → ⊥)
+  pub first_forcing : (r : Option Forced) → MatchOption r ((k : ℕ) → 1 ≤ k → k ≤ s.books.room.texts → (l : Literal) → ForcesAt (scan_meaning s) k l → ⊥)
       (λ f. (i : ℕ) × ((f.number ≡ i) × ForcesAt (scan_meaning s) i f.literal) × ((k : ℕ) → 1 ≤ k → k < i → (l : Literal) → ForcesAt (scan_meaning s) k l → ⊥))
       → LowestForcing (scan_meaning s) r
   first_forcing None h = λ k l f. let w = on_low k f.0 in h k w.0 w.1 l f
@@ -67,6 +68,14 @@ module _ (m : Meaning) (n : ℕ) where
   pub false_at : (b : Bool) → On m n → b ≡ falsified (values m) (text_of m n) → MatchBool b (FalseAt m n) (FalseAt m n → ⊥)
   false_at true o e = (o, falsified_true (values m) (text_of m n) (sym e))
   false_at false o e = λ f. false≢true (e ∙ falsified_there (values m) (text_of m n) f.1)
+
+  -- and at any number, by a look at the text if it is on
+  pub false_look : {Seen : Bor (List Literal) → Type 0} (r : Option (Bor (List Literal))) (b : Bool)
+      → MatchOption r (is_on m n ≡ false) (λ text. On m n × (text.now ≡ text_of m n)) → MatchOption r (b ≡ false) Seen
+      → ((text : Bor (List Literal)) → Seen text → b ≡ falsified (values m) text.now) → MatchBool b (FalseAt m n) (FalseAt m n → ⊥)
+  false_look (Some text) b there seen look = false_at b there.0 (look text seen ∙ ap (falsified (values m)) there.1)
+  false_look None true off seen look = absurd (false≢true (sym seen))
+  false_look None false off seen look = λ f. false≢true (sym off ∙ f.0)
 
   pub forces_at : (l : Literal) → On m n → Some l ≡ forced (values m) (text_of m n) → ForcesAt m n l
   forces_at l o e = (o, subst (IsForced (values m) (text_of m n)) (sym e) (forced_is (values m) (text_of m n)))

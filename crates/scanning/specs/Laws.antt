@@ -11,19 +11,19 @@ use Rattle.scanning.specs.Store.{stored_text}
 use Rattle.scanning.specs.Seen.{scan_meaning}
 
 -- a text for each row in use
-pub texts_length : (s : Scanning) → length (scan_meaning s).texts ≡ s.room.texts
+pub texts_length : (s : Scanning) → length (scan_meaning s).texts ≡ s.books.room.texts
 texts_length s =
-    length-map (take s.room.texts s.rows.now) (stored_text s.places.now)
-    ∙ length-take-le s.room.texts s.rows.now (le_trans s.room.few.0 s.served.0)
+    length-map (take s.books.room.texts s.rows.now) (stored_text s.places.now)
+    ∙ length-take-le s.books.room.texts s.rows.now (le_trans s.books.room.few.0 s.served.0)
 
 pub scan_laws : (s : Scanning) → WellFormed (scan_meaning s)
 scan_laws s = record {
   clauses = rising_clauses (scan_meaning s).texts s.rising;
-  marks = length-map (take s.room.texts s.rows.now) (λ (r : TextRow). r.on) ∙ sym (length-map (take s.room.texts s.rows.now) (stored_text s.places.now));
-  few_texts = subst (λ (n : ℕ). n ≤ s.room.limits.texts) (sym (texts_length s)) s.room.few.0;
-  few_literals = subst (λ (n : ℕ). n ≤ s.room.limits.literals) (sym s.counted) s.room.few.1;
-  consistent = s.session.consistent;
-  at_rest = no_trail s.session.trail;
-  countable = s.session.countable;
+  marks = length-map (take s.books.room.texts s.rows.now) (λ (r : TextRow). r.on) ∙ sym (length-map (take s.books.room.texts s.rows.now) (stored_text s.places.now));
+  few_texts = subst (λ (n : ℕ). n ≤ s.books.room.limits.texts) (sym (texts_length s)) s.books.room.few.0;
+  few_literals = subst (λ (n : ℕ). n ≤ s.books.room.limits.literals) (sym s.counted) s.books.room.few.1;
+  consistent = s.books.session.consistent;
+  at_rest = no_trail s.books.session.trail;
+  countable = s.books.session.countable;
   small = s.small;
 }

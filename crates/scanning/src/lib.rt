@@ -8,8 +8,7 @@ ghost use Rattle.scanning.specs.Store.{texts_in, Small, Served, AllRising, Place
 
 use crate::rows::TextRow;
 use cnf::literals::Literal;
-use engine::limits::Room;
-use engine::sessions::Session;
+use engine::books::Books;
 
 pub mod making;
 pub mod rows;
@@ -23,11 +22,10 @@ pub mod storing;
 pub struct Scanning<'a> {
     rows: &'a mut [TextRow],
     places: &'a mut [Literal],
-    room: Room,
-    session: Session,
-    ghost small: { Small room.limits },
-    ghost served: { Served room.limits rows.now places.now },
-    ghost placed: { Placed rows.now room.texts room.literals },
-    ghost counted: { literals (texts_in rows.now places.now room.texts) ≡ room.literals },
-    ghost rising: { AllRising (texts_in rows.now places.now room.texts) },
+    books: Books,
+    ghost small: { Small books.room.limits },
+    ghost served: { Served books.room.limits rows.now places.now },
+    ghost placed: { Placed rows.now books.room.texts books.room.literals },
+    ghost counted: { literals (texts_in rows.now places.now books.room.texts) ≡ books.room.literals },
+    ghost rising: { AllRising (texts_in rows.now places.now books.room.texts) },
 }

@@ -6,9 +6,9 @@ ghost use Rattle.scanning.specs.Seen.{scan_meaning};
 use crate::Scanning;
 use crate::rows::TextRow;
 use cnf::literals::Literal;
+use engine::books::Books;
 use engine::faults::EngineFault;
-use engine::limits::{Limits, Room};
-use engine::sessions::Session;
+use engine::limits::Limits;
 
 impl<'a> Scanning<'a> {
     /// Whether the lists serve an engine with these limits.
@@ -22,15 +22,13 @@ impl<'a> Scanning<'a> {
     pub fn new(limits: Limits, rows: &'a mut [TextRow], places: &'a mut [Literal]) -> Scanning<'a>
         ensures { scan_meaning result ≡ made (no_making limits.texts limits.literals (length rows.old) (length places.old)) limits.texts limits.literals }
     {
-        let limits = match Scanning::fits(limits, rows, places) {
-            Ok(()) => limits,
-            Err(_) => Limits::default(),
-        };
+        let limits = Scanning::fits(limits, rows, places)
+            .map(|()| limits)
+            .unwrap_or_default();
         Scanning {
             rows,
             places,
-            room: Room::new(limits),
-            session: Session::new(),
+            books: Books::new(limits),
         }
     }
 }

@@ -15,7 +15,7 @@ impl<'a> Scanning<'a> {
     fn text_on(&self, number: u16) -> Option<&[Literal]>
         ensures { MatchOption result (is_on (scan_meaning self.now) number ≡ false) (λ text. On (scan_meaning self.now) number × (text.now ≡ text_of (scan_meaning self.now) number)) }
     {
-        let place = self.room.place(number).ok()?;
+        let place = self.books.room.place(number).ok()?;
         let row = self.rows[place];
         if !row.on {
             return None;
@@ -27,10 +27,9 @@ impl<'a> Scanning<'a> {
     fn is_false_at(&self, number: u16) -> bool
         ensures { MatchBool result (FalseAt (scan_meaning self.now) number) (FalseAt (scan_meaning self.now) number → ⊥) }
     {
-        match self.text_on(number) {
-            Some(text) => is_falsified(self.session.entries(), text),
-            None => false,
-        }
+        let trail = self.books.session.entries();
+        self.text_on(number)
+            .is_some_and(|text| is_falsified(trail, text))
     }
 
     /// The literal that a text forces, if it is on.
@@ -38,7 +37,7 @@ impl<'a> Scanning<'a> {
         ensures { MatchOption result ((l : Literal) → ForcesAt (scan_meaning self.now) number l → ⊥) (λ f. (f.number ≡ number) × ForcesAt (scan_meaning self.now) number f.literal) }
     {
         let text = self.text_on(number)?;
-        let literal = forced_by(self.session.entries(), text)?;
+        let literal = forced_by(self.books.session.entries(), text)?;
         Some(Forced { literal, number })
     }
 
@@ -46,14 +45,14 @@ impl<'a> Scanning<'a> {
     fn lowest_false(&self) -> Option<u16>
         ensures { LowestFalse (scan_meaning self.now) result }
     {
-        (1..=self.room.texts()).find(|number| self.is_false_at(*number))
+        (1..=self.books.room.texts()).find(|number| self.is_false_at(*number))
     }
 
     /// The lowest number whose text is on and forces a literal, with that literal.
     fn lowest_forcing(&self) -> Option<Forced>
         ensures { LowestForcing (scan_meaning self.now) result }
     {
-        (1..=self.room.texts()).find_map(|number| self.forced_at(number))
+        (1..=self.books.room.texts()).find_map(|number| self.forced_at(number))
     }
 
     /// The lowest falsified number, else the lowest forcing one.
@@ -64,9 +63,7 @@ impl<'a> Scanning<'a> {
         if let Some(number) = self.lowest_false() {
             return Answer::Conflict(number);
         }
-        match self.lowest_forcing() {
-            Some(forced) => Answer::Forced(forced),
-            None => Answer::Nothing,
-        }
+        self.lowest_forcing()
+            .map_or(Answer::Nothing, Answer::Forced)
     }
 }

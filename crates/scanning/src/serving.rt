@@ -21,33 +21,30 @@ impl<'a> Engine for Scanning<'a> {
     ghost laws = { scan_laws };
 
     fn is_open(&self) -> bool {
-        self.session.is_open()
+        self.books.session.is_open()
     }
 
     fn answers(&self) -> u32 {
-        self.session.answers()
+        self.books.session.answers()
     }
 
     fn text_limit(&self) -> u16 {
-        self.room.limits().texts
+        self.books.room.limits().texts
     }
 
     fn literal_limit(&self) -> u16 {
-        self.room.limits().literals
+        self.books.room.limits().literals
     }
 
     fn clear(&mut self) -> Result<(), EngineFault> {
-        self.session.shut()?;
-        self.room.clear();
-        self.session.restart();
-        Ok(())
+        self.books.clear()
     }
 
     fn put(&mut self, literals: &[Literal]) -> Result<(), EngineFault> {
-        self.session.shut()?;
+        self.books.session.ensure_shut()?;
         let draft = arrange(MOST_VARIABLES, literals);
         let text = draft.clause()?;
-        if !self.room.has(text.len()) {
+        if !self.books.room.has(text.len()) {
             return Err(EngineFault::Full);
         }
         self.store(text);
@@ -75,21 +72,21 @@ impl<'a> Engine for Scanning<'a> {
     }
 
     fn begin(&mut self, _key: &Key) -> Result<(), EngineFault> {
-        self.session.begin()
+        self.books.session.begin()
     }
 
     fn assume(&mut self, _trial: &Trial, literal: Literal) -> Result<(), EngineFault> {
-        self.session.assume(literal)
+        self.books.session.assume(literal)
     }
 
     fn next(&mut self, _trial: &Trial) -> Result<Answer, EngineFault> {
-        self.session.opened()?;
+        self.books.session.ensure_open()?;
         let answer = self.find();
-        self.session.note(answer);
+        self.books.session.note(answer);
         Ok(answer)
     }
 
     fn finish(&mut self, _key: &Key) -> Result<(), EngineFault> {
-        self.session.finish()
+        self.books.session.finish()
     }
 }

@@ -14,8 +14,7 @@ impl<'a> Scanning<'a> {
     pub(crate) fn place(&self, number: u16) -> Result<usize, EngineFault>
         ensures { result ≡ unless (no_place (scan_meaning self.now) number) (number - 1) }
     {
-        self.session.shut()?;
-        self.room.place(number)
+        self.books.place(number)
     }
 
     /// Where the row of a text stands that is on. Refuses while a trial is open.
@@ -31,7 +30,7 @@ impl<'a> Scanning<'a> {
 
     /// Turns the text at this place on or off.
     pub(crate) fn set_mark(&mut self, place: usize, on: bool)
-        requires { place < self.old.room.texts }
+        requires { place < self.old.books.room.texts }
         ensures { scan_meaning self.new ≡ with_on (slice_set (scan_meaning self.old).on place on) (scan_meaning self.old) }
     {
         self.rows[place].on = on;
@@ -40,17 +39,17 @@ impl<'a> Scanning<'a> {
     /// Adds a text for which there is room.
     pub(crate) fn store(&mut self, text: &[Literal])
         requires clause { IsClause highest text.now }
-        requires room { (self.old.room.texts < self.old.room.limits.texts) × (self.old.room.literals + length text.now ≤ self.old.room.limits.literals) }
+        requires room { (self.old.books.room.texts < self.old.books.room.limits.texts) × (self.old.books.room.literals + length text.now ≤ self.old.books.room.limits.literals) }
         ensures { scan_meaning self.new ≡ with_text text.now (scan_meaning self.old) }
     {
-        let start = self.room.literals();
+        let start = self.books.room.literals();
         let end = start + text.len();
         self.places[start..end].copy_from_slice(text);
-        self.rows[usize::from(self.room.texts())] = TextRow {
+        self.rows[usize::from(self.books.room.texts())] = TextRow {
             start,
             length: text.len(),
             on: false,
         };
-        self.room.take(text.len());
+        self.books.room.take(text.len());
     }
 }

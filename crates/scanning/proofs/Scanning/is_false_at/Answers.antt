@@ -1,11 +1,7 @@
-use Rattle.std.proofs.Common.{◌∙◌}
-use Rattle.engine.specs.Meaning.{values_of}
-use Rattle.engine.specs.Looks.{falsified}
+use Rattle.std.proofs.Common.{rules, tests}
 use Rattle.scanning.specs.Seen.{scan_meaning}
-use Rattle.scanning.proofs.Reading.{false_at}
+use Rattle.scanning.proofs.Reading.{false_look}
 use Rattle.scanning.proofs.Scanning.is_false_at.Goals as goal
 
-pub returns-in-Some : goal.returns-in-Some
-returns-in-Some c =
-    false_at (scan_meaning c.args.self.now) c.args.number c.is_falsified.result c.in-Some.ensures.0
-    (c.is_falsified.ensures ∙ (λ i. falsified (values_of (c.entries.ensures i)) (c.in-Some.ensures.1 i)))
+pub returns : goal.returns
+returns c = false_look (scan_meaning c.args.self.now) c.args.number c.text_on.result c.is_some_and.result c.text_on.ensures c.is_some_and.ensures (λ text k. search (rules, tests))

@@ -10,6 +10,6 @@ returns c =
     let s = c.args.self.now in
     let m = scan_meaning s in
     first_false s c.find.result
-    (first_number c.new.result _ s.room.texts c.find.result (FalseAt m) (λ k. FalseAt m k → ⊥)
+    (first_number c.new.result _ s.books.room.texts c.find.result (FalseAt m) (λ k. FalseAt m k → ⊥)
     c.new.ensures.start (c.new.ensures.end ∙ c.texts.ensures) c.new.ensures.exhausted c.find.ensures.runs
     (λ x r q k. search (rules, tests)) (λ x k. search (rules, tests)) (λ x k. search (rules, tests)))

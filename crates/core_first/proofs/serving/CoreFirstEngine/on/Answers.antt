@@ -8,15 +8,15 @@ use Rattle.core_first.proofs.serving.CoreFirstEngine.on.Goals as goal
 pub invariant_of-self : goal.invariant_of-self
 invariant_of-self g c =
     let s = c.args.self.now in
-    let m = core_meaning g.P.Engine.meaning g.R.Engine.meaning s.sides s.room s.session in
+    let m = core_meaning g.P.Engine.meaning g.R.Engine.meaning s.sides s.books.room s.books.session in
     let n = c.args.number in
     let can = can_turn m n (judged_none _ c.in_ok-can_turn.ensures) in
-    record { whole = (turned s.session s.whole c.on.new.self (no_on m n) (set m.on (n - 1) true) c.on.result (c.on.ensures.turns m can.0 can.1 s.whole.backed)).1 }
+    record { whole = (turned s.books.session s.whole c.on.new.self (no_on m n) (set m.on (n - 1) true) c.on.result (c.on.ensures.turns m can.0 can.1 s.whole.backed)).1 }
 
 pub returns : goal.returns
 returns g c =
     let s = c.args.self.now in
-    let m = core_meaning g.P.Engine.meaning g.R.Engine.meaning s.sides s.room s.session in
+    let m = core_meaning g.P.Engine.meaning g.R.Engine.meaning s.sides s.books.room s.books.session in
     let n = c.args.number in
     let can = can_turn m n (judged_none _ c.in_ok-can_turn.ensures) in
-    record { does = (turned s.session s.whole c.on.new.self (no_on m n) (set m.on (n - 1) true) c.on.result (c.on.ensures.turns m can.0 can.1 s.whole.backed)).0 }
+    record { does = (turned s.books.session s.whole c.on.new.self (no_on m n) (set m.on (n - 1) true) c.on.result (c.on.ensures.turns m can.0 can.1 s.whole.backed)).0 }

@@ -6,13 +6,13 @@ use Rattle.engine.specs.Sessions.{in_session}
 use Rattle.engine.proofs.Refusing.{judged_fault, judged_none}
 use Rattle.engine.proofs.sessions.Session.begin.Goals as goal
 
-pub returns-in_err-shut : goal.returns-in_err-shut
-returns-in_err-shut c m =
+pub returns-in_err-ensure_shut : goal.returns-in_err-ensure_shut
+returns-in_err-ensure_shut c m =
     let p = err_from_is_err_and c.from_residual.result c.from_residual.ensures.1 in
-    rw (p.1, p.2) (judged_fault _ _ (c.in_err-shut.ensures m), refl)
+    rw (p.1, p.2) (judged_fault _ _ (c.in_err-ensure_shut.ensures m), refl)
 
 pub returns : goal.returns
 returns c m = (
-  judged_none _ (c.in_ok-shut.ensures m),
+  judged_none _ (c.in_ok-ensure_shut.ensures m),
   ap (λ (t : List Forced). with_trail t (with_opened true (in_session c.args.self.now m))) c.new.ensures,
 )

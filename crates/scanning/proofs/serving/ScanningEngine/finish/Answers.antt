@@ -1,5 +1,5 @@
-use Rattle.scanning.specs.Seen.{stored}
+use Rattle.scanning.specs.Seen.{scan_meaning}
 use Rattle.scanning.proofs.serving.ScanningEngine.finish.Goals as goal
 
 pub returns : goal.returns
-returns c = record { does = c.finish.ensures (stored c.args.self.now) }
+returns c = record { does = c.finish.ensures (scan_meaning c.args.self.now) }
