@@ -13,7 +13,7 @@ use Rattle.job.specs.declared.faults.JobFault.{JobFault}
 use Rattle.job.specs.declared.faults.JobFault.TheVariants.{Begun, Ended, Full, NoneLive}
 use Rattle.job.specs.View.{View}
 use Rattle.job.specs.History.{steps_of}
-use Rattle.job.specs.Calls.{with_clause, is_full, clause_answer, lemma_answer, copy_in, found_or, strike_answer, last_step, withdraw_answer}
+use Rattle.job.specs.Calls.{with_clause, is_full, HasRoom, clause_answer, lemma_answer, copy_in, found_or, strike_answer, last_step, withdraw_answer}
 
 -- literals that make a clause
 pub record Makes (variables : ℕ) (ls : List Literal) (c : Clause) : Type 0 where
@@ -81,7 +81,7 @@ module _ (s : View) (ls : List Literal) (c : Clause) (e : arrangement s.variable
       go (suc n) low = refl
 
 -- there is room
-pub room_for : (s : View) (count : ℕ) → s.used ≤ s.room → is_full s count ≡ false → (s.clauses < s.places) × (s.used + count ≤ s.room)
+pub room_for : (s : View) (count : ℕ) → s.used ≤ s.room → is_full s count ≡ false → HasRoom s count
 room_for s count h e =
     let p = or_parts (leb s.places s.clauses) (ltb (s.room - s.used) count) e in
     let a = leb-false s.places s.clauses p.0 in

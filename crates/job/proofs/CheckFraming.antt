@@ -122,13 +122,11 @@ module _ (s s' : View) (f : Framed s s') where
   }
 
   -- wiping the lists after a check leaves what wiping them before it would
-  pub wiped_framed : (s₁ s₂ : View) → s₁ ≡ with_arcs (replicate (length s'.arcs) 0) s' → s₂ ≡ with_rows (unmarked s₁.clauses s₁.rows) s₁ → s₂ ≡ wiped s
-  wiped_framed s₁ s₂ a b =
+  pub wiped_framed : wiped s' ≡ wiped s
+  wiped_framed =
       let rows : unmarked s'.clauses s'.rows ≡ unmarked s.clauses s.rows =
       ap (λ (c : ℕ). unmarked c s'.rows) clauses_framed ∙ unmarked_same s.clauses s'.rows s.rows f.same_rows f.same_beyond in
-      b
-      ∙ ap (λ (x : View). with_rows (unmarked x.clauses x.rows) x) a
-      ∙ (λ i. with_rows (rows i) (with_arcs (replicate (f.same_places i) 0) (f.but_for i)))
+      λ i. with_rows (rows i) (with_arcs (replicate (f.same_places i) 0) (f.but_for i))
 
 pub framed_self : (s : View) → Framed s s
 framed_self s = record { but_for = refl; same_rows = refl; same_beyond = refl; same_places = refl }

@@ -1,6 +1,6 @@
 -- The way back over the steps: what the loop keeps.
-use Rattle.std.proofs.Common.{◌≡◌, ℕ, suc, ◌+◌, ◌-◌, ◌*◌, ◌<◌, ◌≤◌, min, Bool, true, false, List, [], ◌∷◌, map, length, get_or, sym, refl, ap, ◌∙◌, subst, arith}
-use mathlib.Core.Bool.{false≢true}
+use Rattle.std.proofs.Common.{◌≡◌, ℕ, suc, ◌+◌, ◌-◌, ◌*◌, ◌<◌, ◌≤◌, min, Bool, true, false, List, [], ◌∷◌, map, length, get_or, Some, None, sym, refl, ap, ◌∙◌, subst, arith}
+use Rattle.std.proofs.lemmas.Option.{none-some, same_Some}
 use mathlib.Core.List.Memᴰ
 use lib.Seq.{paste}
 use Rattle.cnf.specs.declared.literals.Forced.{Forced as Entry}
@@ -23,8 +23,8 @@ use Rattle.job.specs.View.{View, blank_row, blank_step, text_in, texts, marks}
 use Rattle.job.specs.History.{inputs_of, before, machine_of}
 use Rattle.job.specs.CheckLists.{Framed, row_start, arcs_of, recorded}
 use Rattle.job.specs.CheckShowing.{Shows, Holds}
-use Rattle.job.specs.CheckJudging.{Raisable, Passed, Failed}
-use Rattle.job.specs.CheckWalking.{BackLemma, Back, Roomy, Ready, verdict_in, TurnsDown}
+use Rattle.job.specs.CheckJudging.{Passed, Failed}
+use Rattle.job.specs.CheckWalking.{nothing, added, Addable, BackLemma, Back, Roomy, Ready, verdict_in, TurnsDown}
 use Rattle.job.proofs.Histories.{length_steps}
 use Rattle.job.proofs.CheckFit.{Fit}
 use Rattle.job.proofs.CheckShown.{shown_conflict, shown_nothing, shown_gathered}
@@ -73,11 +73,11 @@ shows_after m m' inputs steps k e s =
 
 module _ (s₀ : View) (o : Fit s₀) (rooms : Roomy s₀) (i : ℕ) (h : i < s₀.taken) (s : View) (m : Meaning) (t : Tally) (g : Going s₀ (suc i) s m t) where
   module _ (n : ℕ) (e : get_or s₀.steps i blank_step ≡ Strike n) where
-    on_strike : (s' : View) (m' : Meaning) (t' : Tally) → s' ≡ s → m' ≡ with_mark n true m → t' ≡ t → Going s₀ i s' m' t'
-    on_strike s' m' t' p q u =
-        subst (λ (x : View). Going s₀ i x m' t') (sym p)
-        (subst (λ (x : Meaning). Going s₀ i s x t') (sym q)
-        (subst (Going s₀ i s (with_mark n true m)) (sym u)
+    on_strike : (s' : View) (m' : Meaning) (more : Tally) → s' ≡ s → m' ≡ with_mark n true m → more ≡ nothing → Going s₀ i s' m' (added t more)
+    on_strike s' m' more p q u =
+        subst (λ (x : View). Going s₀ i x m' (added t more)) (sym p)
+        (subst (λ (x : Meaning). Going s₀ i s x (added t more)) (sym q)
+        (subst (λ (x : Tally). Going s₀ i s (with_mark n true m) (added t x)) (sym u)
         (record {
           framed = g.framed;
           rows = g.rows;
@@ -88,8 +88,8 @@ module _ (s₀ : View) (o : Fit s₀) (rooms : Roomy s₀) (i : ℕ) (h : i < s�
           counted = g.counted;
           holds = holds_on s₀ o i h n e m g.holds g.shows;
           shows = shows_on s₀ o i h n e m g.holds g.shows;
-          all_lemmas = g.all_lemmas;
-          all_arcs = g.all_arcs;
+          all_lemmas = (let a = g.all_lemmas in omega arith);
+          all_arcs = (let a = g.all_arcs in omega arith);
           few_lemmas = (let a = g.few_lemmas in omega arith);
           few_arcs = (let a = g.few_arcs in omega arith);
         })))
@@ -121,11 +121,11 @@ module _ (s₀ : View) (o : Fit s₀) (rooms : Roomy s₀) (i : ℕ) (h : i < s�
         let z = range.1 in
         ap (marks_of (marks s)) (sym number) ∙ mark_at s.clauses s.rows n (omega arith) (omega arith) ∙ f
 
-    on_idle : (s' : View) (m' : Meaning) (t' : Tally) → (get_or s.rows (n - 1) blank_row).kept ≡ false → s' ≡ s → m' ≡ off → t' ≡ t → Going s₀ i s' m' t'
-    on_idle s' m' t' f p q u =
-        subst (λ (x : View). Going s₀ i x m' t') (sym p)
-        (subst (λ (x : Meaning). Going s₀ i s x t') (sym q)
-        (subst (Going s₀ i s off) (sym u)
+    on_idle : (s' : View) (m' : Meaning) (more : Tally) → (get_or s.rows (n - 1) blank_row).kept ≡ false → s' ≡ s → m' ≡ off → more ≡ nothing → Going s₀ i s' m' (added t more)
+    on_idle s' m' more f p q u =
+        subst (λ (x : View). Going s₀ i x m' (added t more)) (sym p)
+        (subst (λ (x : Meaning). Going s₀ i s x (added t more)) (sym q)
+        (subst (λ (x : Tally). Going s₀ i s off (added t x)) (sym u)
         (record {
           framed = g.framed;
           rows = g.rows;
@@ -135,8 +135,8 @@ module _ (s₀ : View) (o : Fit s₀) (rooms : Roomy s₀) (i : ℕ) (h : i < s�
           counted = g.counted;
           holds = holds;
           shows = shows;
-          all_lemmas = g.all_lemmas;
-          all_arcs = g.all_arcs;
+          all_lemmas = (let a = g.all_lemmas in omega arith);
+          all_arcs = (let a = g.all_arcs in omega arith);
           few_lemmas = (let a = g.few_lemmas in omega arith);
           few_arcs = (let a = g.few_arcs in omega arith);
         })))
@@ -147,8 +147,8 @@ module _ (s₀ : View) (o : Fit s₀) (rooms : Roomy s₀) (i : ℕ) (h : i < s�
     more_counted : (m' : Meaning) (k : ℕ) → m' ≡ counted_by k off → m'.answers ≡ min (g.count + k) most
     more_counted m' k q = ap (λ (x : Meaning). x.answers) q ∙ ap (λ (a : ℕ). min (a + k) most) g.counted ∙ (let z : min (min g.count most + k) most ≡ min (g.count + k) most = omega arith in z)
 
-    on_passed : (s' : View) (m' : Meaning) (t' : Tally) → (get_or s.rows (n - 1) blank_row).kept ≡ true → Passed s off t n s' m' t' → Going s₀ i s' m' t'
-    on_passed s' m' t' f p = go
+    on_passed : (s' : View) (m' : Meaning) (more : Tally) → (get_or s.rows (n - 1) blank_row).kept ≡ true → more.lemmas ≡ 1 → Passed s off n more.arcs s' m' → Going s₀ i s' m' (added t more)
+    on_passed s' m' more f one p = go
       where
         answers : List Entry
         answers = p.answers
@@ -209,15 +209,12 @@ module _ (s₀ : View) (o : Fit s₀) (rooms : Roomy s₀) (i : ℕ) (h : i < s�
         same_length : length row ≡ length its_row.antecedents
         same_length = ap length same_row
 
-        more_lemmas : t'.lemmas ≡ t.lemmas + 1
-        more_lemmas = ap (λ (x : Tally). x.lemmas) p.tally
+        more_arcs : more.arcs ≡ length row
+        more_arcs = p.counts
 
-        more_arcs : t'.arcs ≡ t.arcs + length row
-        more_arcs = ap (λ (x : Tally). x.arcs) p.tally
-
-        go : Going s₀ i s' m' t'
+        go : Going s₀ i s' m' (added t more)
         go =
-            subst (λ (x : View). Going s₀ i x m' t') (sym p.lists)
+            subst (λ (x : View). Going s₀ i x m' (added t more)) (sym p.lists)
             (record {
               framed = framed_recorded s₀ s g.framed n row fits in_range;
               rows = its_row ∷ g.rows;
@@ -227,9 +224,9 @@ module _ (s₀ : View) (o : Fit s₀) (rooms : Roomy s₀) (i : ℕ) (h : i < s�
               counted = more_counted m' (asked answers) p.engine;
               holds = holds_after off m' s₀ (asked answers) p.engine holds;
               shows = shows_after off m' (inputs_of s₀) (before s₀ i) (asked answers) p.engine shows;
-              all_lemmas = (let a = more_lemmas in let b = g.all_lemmas in omega arith);
+              all_lemmas = (let b = g.all_lemmas in omega (arith, one));
               all_arcs = (let a = more_arcs in let b = g.all_arcs in let d = same_length in omega arith);
-              few_lemmas = (let a = more_lemmas in let b = g.few_lemmas in omega arith);
+              few_lemmas = (let b = g.few_lemmas in omega (arith, one));
               few_arcs = (let a = more_arcs in let b = g.few_arcs in let d = short in let r = o.range in omega arith);
             })
 
@@ -251,26 +248,26 @@ module _ (s₀ : View) (o : Fit s₀) (rooms : Roomy s₀) (i : ℕ) (h : i < s�
   here_too : get_or s.steps i blank_step ≡ get_or s₀.steps i blank_step
   here_too = ap (λ (steps : List StepRow). get_or steps i blank_step) (steps_framed s₀ s g.framed)
 
-  pub going_on : (s' : View) (m' : Meaning) (t' : Tally) → Back s m t (get_or s.steps i blank_step) true s' m' t' → Going s₀ i s' m' t'
-  going_on s' m' t' b = go (get_or s.steps i blank_step) (sym here_too) b
+  pub going_on : (s' : View) (m' : Meaning) (more : Tally) → Back s m (get_or s.steps i blank_step) (Some more) s' m' → Going s₀ i s' m' (added t more)
+  going_on s' m' more b = go (get_or s.steps i blank_step) (sym here_too) b
     where
-      lemma : (n : ℕ) → get_or s₀.steps i blank_step ≡ Lemma n → (k : Bool) → (get_or s.rows (n - 1) blank_row).kept ≡ k → BackLemma s (with_mark n false m) t n k true s' m' t' → Going s₀ i s' m' t'
-      lemma n e true f p = on_passed n e s' m' t' f p
-      lemma n e false f p = on_idle n e s' m' t' f p.1 p.2 p.3
+      lemma : (n : ℕ) → get_or s₀.steps i blank_step ≡ Lemma n → (k : Bool) → (get_or s.rows (n - 1) blank_row).kept ≡ k → BackLemma s (with_mark n false m) n k (Some more) s' m' → Going s₀ i s' m' (added t more)
+      lemma n e true f p = on_passed n e s' m' more f p.0 p.1
+      lemma n e false f p = on_idle n e s' m' more f p.1 p.2 (same_Some more nothing p.0)
 
-      go : (r : StepRow) → get_or s₀.steps i blank_step ≡ r → Back s m t r true s' m' t' → Going s₀ i s' m' t'
-      go (Strike n) e p = on_strike n e s' m' t' p.1 p.2 p.3
+      go : (r : StepRow) → get_or s₀.steps i blank_step ≡ r → Back s m r (Some more) s' m' → Going s₀ i s' m' (added t more)
+      go (Strike n) e p = on_strike n e s' m' more p.1 p.2 (same_Some more nothing p.0)
       go (Lemma n) e p = lemma n e (get_or s.rows (n - 1) blank_row).kept refl p
 
-  pub going_fails : (s' : View) (m' : Meaning) (t' : Tally) → Back s m t (get_or s.steps i blank_step) false s' m' t' → Framed s₀ s' × TurnsDown s₀ (suc i) m'
-  going_fails s' m' t' b = go (get_or s.steps i blank_step) (sym here_too) b
+  pub going_fails : (s' : View) (m' : Meaning) → Back s m (get_or s.steps i blank_step) None s' m' → Framed s₀ s' × TurnsDown s₀ (suc i) m'
+  going_fails s' m' b = go (get_or s.steps i blank_step) (sym here_too) b
     where
-      lemma : (n : ℕ) → get_or s₀.steps i blank_step ≡ Lemma n → (k : Bool) → (get_or s.rows (n - 1) blank_row).kept ≡ k → BackLemma s (with_mark n false m) t n k false s' m' t' → Framed s₀ s' × TurnsDown s₀ (suc i) m'
+      lemma : (n : ℕ) → get_or s₀.steps i blank_step ≡ Lemma n → (k : Bool) → (get_or s.rows (n - 1) blank_row).kept ≡ k → BackLemma s (with_mark n false m) n k None s' m' → Framed s₀ s' × TurnsDown s₀ (suc i) m'
       lemma n e true f p = on_failed n e s' m' f p
-      lemma n e false f p = absurd (false≢true p.0)
+      lemma n e false f p = absurd (none-some nothing p.0)
 
-      go : (r : StepRow) → get_or s₀.steps i blank_step ≡ r → Back s m t r false s' m' t' → Framed s₀ s' × TurnsDown s₀ (suc i) m'
-      go (Strike n) e p = absurd (false≢true p.0)
+      go : (r : StepRow) → get_or s₀.steps i blank_step ≡ r → Back s m r None s' m' → Framed s₀ s' × TurnsDown s₀ (suc i) m'
+      go (Strike n) e p = absurd (none-some nothing p.0)
       go (Lemma n) e p = lemma n e (get_or s.rows (n - 1) blank_row).kept refl p
 
 -- what a step back asks for
@@ -283,9 +280,10 @@ module _ (s₀ : View) (o : Fit s₀) (i k : ℕ) (e : i ≡ suc k) (s : View) (
       subst (λ (is : List Clause). Shows m is (before s (suc k))) (sym (inputs_framed s₀ s g.framed))
       (subst (Shows m (inputs_of s₀)) (sym (before_framed s₀ s g.framed (suc k))) going_next.shows)
 
-  pub can_raise : Raisable t
-  can_raise =
-      let a = g.few_lemmas in
-      let b = g.few_arcs in
-      let d = o.rooms.3 in
-      (omega arith, omega arith)
+-- what a step back counts can be added
+pub can_add : (s₀ : View) → Fit s₀ → (i : ℕ) (s : View) (m : Meaning) (t more : Tally) → Going s₀ i s m (added t more) → Addable t more
+can_add s₀ o i s m t more g =
+    let a = g.few_lemmas in
+    let b = g.few_arcs in
+    let d = o.rooms.3 in
+    (omega arith, omega arith)

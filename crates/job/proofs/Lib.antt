@@ -6,6 +6,7 @@ pub mod Strikes
 pub mod Withdrawals
 pub mod Standing
 pub mod Happening
+pub mod Numbers
 pub mod Copies
 pub mod Answering
 pub mod CheckFit

@@ -1,5 +1,5 @@
 -- What the calls of a job answer, and what they leave.
-use Rattle.std.specs.Prelude.{◌≡◌, ℕ, zero, suc, ◌+◌, ◌-◌, ◌≤◌, Bool, false, cond, ◌||◌, List, length, Some, None, Ok, Err, Option, Result, ◌==◌, nat_le, nat_lt, slice_index_or, slice_set}
+use Rattle.std.specs.Prelude.{◌≡◌, ℕ, zero, suc, ◌+◌, ◌-◌, ◌<◌, ◌≤◌, Bool, false, cond, ◌||◌, List, length, Some, None, Ok, Err, Option, Result, MatchOption, ◌==◌, nat_le, nat_lt, slice_index_or, slice_set}
 use Rattle.std.proofs.Math.Seq.{paste}
 use Rattle.cnf.specs.declared.literals.Literal.{Literal}
 use Rattle.cnf.specs.Clauses.{Clause}
@@ -38,6 +38,10 @@ with_clause (Err fault) next = Err (Faulty fault)
 abbrev pub is_full : View → (count : ℕ) → Bool
 is_full s count = nat_le s.places s.clauses || nat_lt (s.room - s.used) count
 
+-- there are places for a clause of so many literals
+abbrev pub HasRoom : View → (count : ℕ) → Type 0
+HasRoom s count = (s.clauses < s.places) × (s.used + count ≤ s.room)
+
 -- what `clause` answers: the number of the new clause
 abbrev pub clause_answer : View → List Literal → Result ℕ JobFault
 clause_answer s ls =
@@ -56,8 +60,7 @@ copy_in s c = live_copy c (down_from (text_in (texts s)) s.clauses) (steps_of s)
 
 -- that number, if there is one
 abbrev pub FoundCopy : View → Clause → Option ℕ → Type 0
-FoundCopy s c (Some n) = (n ≡ copy_in s c) × (1 ≤ n)
-FoundCopy s c None = copy_in s c ≡ 0
+FoundCopy s c found = MatchOption found (copy_in s c ≡ 0) (λ n. (n ≡ copy_in s c) × (1 ≤ n))
 
 -- a number that was found, or the refusal
 abbrev pub found_or : JobFault → ℕ → Result ℕ JobFault
@@ -72,6 +75,10 @@ strike_answer s ls =
 -- the latest step
 abbrev pub last_step : View → StepRow
 last_step s = slice_index_or s.steps (s.taken - 1) blank_step
+
+-- that step, if there is one
+abbrev pub FoundLast : View → Option StepRow → Type 0
+FoundLast s found = MatchOption found (s.taken ≡ 0) (λ step. (0 < s.taken) × (step ≡ last_step s))
 
 -- what `withdraw` answers: the step that is taken back
 abbrev pub withdraw_answer : View → Result StepRow JobFault

@@ -1,5 +1,5 @@
 -- The way back over the steps.
-use Rattle.std.specs.Prelude.{◌≡◌, ℕ, suc, ◌+◌, ◌-◌, ◌<◌, ◌≤◌, min, Bool, true, false, List, [], length, replicate, Ok, Err, Result, slice_index_or}
+use Rattle.std.specs.Prelude.{◌≡◌, ℕ, suc, ◌+◌, ◌-◌, ◌*◌, ◌<◌, ◌≤◌, min, Bool, true, false, List, [], length, replicate, Some, None, Option, Ok, Err, Result, slice_index_or}
 use Rattle.drup.specs.Marks.{lone}
 use Rattle.drup.specs.Backward.{Row, Verdict, arcs, report, accepted, fails}
 use Rattle.drup.specs.Box.{last, Checks}
@@ -12,17 +12,34 @@ use Rattle.job.specs.View.{View, blank_row, marks}
 use Rattle.job.specs.History.{inputs_of, steps_of, machine_of}
 use Rattle.job.specs.CheckLists.{row_start, arcs_of}
 use Rattle.job.specs.CheckShowing.{Shows, Holds}
-use Rattle.job.specs.CheckJudging.{Judged}
+use Rattle.job.specs.CheckJudging.{Passed, Failed}
+
+-- a tally of no lemma
+abbrev pub nothing : Tally
+nothing = record { lemmas = 0; arcs = 0 }
+
+-- two tallies together
+abbrev pub added : (t more : Tally) → Tally
+added t more = record { lemmas = t.lemmas + more.lemmas; arcs = t.arcs + more.arcs }
+
+-- two tallies that can be added: a job has at most 8192 steps, and a row at most 513 numbers
+abbrev pub Addable : (t more : Tally) → Type 0
+Addable t more = (t.lemmas + more.lemmas ≤ 8192) × (t.arcs + more.arcs ≤ 8192 * 513)
+
+-- what the trial of a kept lemma counts, if it passed
+abbrev pub Tried : View → Meaning → (n : ℕ) → Option Tally → View → Meaning → Type 0
+Tried s m n (Some more) s' m' = (more.lemmas ≡ 1) × Passed s m n more.arcs s' m'
+Tried s m n None s' m' = Failed s m n s' m'
 
 -- a lemma that was turned off: one that is kept is tried
-abbrev pub BackLemma : View → Meaning → Tally → (n : ℕ) → (kept passes : Bool) → View → Meaning → Tally → Type 0
-BackLemma s m t n true r s' m' t' = Judged s m t n r s' m' t'
-BackLemma s m t n false r s' m' t' = (r ≡ true) × (s' ≡ s) × (m' ≡ m) × (t' ≡ t)
+abbrev pub BackLemma : View → Meaning → (n : ℕ) → (kept : Bool) → Option Tally → View → Meaning → Type 0
+BackLemma s m n true r s' m' = Tried s m n r s' m'
+BackLemma s m n false r s' m' = (r ≡ Some nothing) × (s' ≡ s) × (m' ≡ m)
 
 -- one step back
-abbrev pub Back : View → Meaning → Tally → StepRow → (passes : Bool) → View → Meaning → Tally → Type 0
-Back s m t (Strike n) r s' m' t' = (r ≡ true) × (s' ≡ s) × (m' ≡ with_mark n true m) × (t' ≡ t)
-Back s m t (Lemma n) r s' m' t' = BackLemma s (with_mark n false m) t n (slice_index_or s.rows (n - 1) blank_row).kept r s' m' t'
+abbrev pub Back : View → Meaning → StepRow → Option Tally → View → Meaning → Type 0
+Back s m (Strike n) r s' m' = (r ≡ Some nothing) × (s' ≡ s) × (m' ≡ with_mark n true m)
+Back s m (Lemma n) r s' m' = BackLemma s (with_mark n false m) n (slice_index_or s.rows (n - 1) blank_row).kept r s' m'
 
 -- each lemma has a place for its row
 abbrev pub Roomy : View → Type 0

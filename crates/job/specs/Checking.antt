@@ -13,6 +13,7 @@ use Rattle.job.specs.Faults.{number_of, place_of}
 use Rattle.job.specs.View.{View, texts, marks, with_rows, with_arcs, with_judged}
 use Rattle.job.specs.History.{steps_of, machine_of}
 use Rattle.job.specs.CheckLists.{mark_all, unmarked, arcs_of, Framed}
+use Rattle.job.specs.CheckShowing.{Shut}
 use Rattle.job.specs.CheckFrame.{Large}
 use Rattle.job.specs.CheckWalking.{Roomy}
 
@@ -27,7 +28,7 @@ wiped s = with_rows (unmarked s.clauses s.rows) (with_arcs (replicate (length s.
 -- what a check that is not refused can rest on
 pub record Allowed (s : View) (m : Meaning) : Type 0 where
   pub is_ended : ended (steps_of s) ≡ true
-  pub shut : m.opened ≡ false
+  pub shut : Shut m
   pub large : Large s m
   pub rooms : Roomy s
 
@@ -62,7 +63,7 @@ pub record Idle (s : View) (m' : Meaning) : Type 0 where
   pub its_texts : m'.texts ≡ texts s
   pub none_on : m'.on ≡ replicate s.clauses false
   pub no_trail : m'.trail ≡ []
-  pub shut : m'.opened ≡ false
+  pub shut : Shut m'
 
 -- what a refused check leaves: one that begins and fails leaves no mark, no arc and a job that is not judged; another
 -- leaves all as it was

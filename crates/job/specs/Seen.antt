@@ -6,9 +6,9 @@ use Rattle.job.specs.View.{View}
 -- what a job holds
 abbrev pub view : Job → View
 view j = record {
-  variables = j.variables;
-  places = j.places;
-  room = j.room;
+  variables = j.size.variables;
+  places = j.size.places;
+  room = j.size.room;
   rows = j.records.now;
   steps = j.steps.now;
   lits = j.literals.now;

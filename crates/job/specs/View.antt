@@ -1,5 +1,5 @@
 -- What a job holds, with the memory that it lies in left out.
-use Rattle.std.specs.Prelude.{ℕ, zero, suc, Bool, false, List, [], map, take, drop, None, slice_index_or}
+use Rattle.std.specs.Prelude.{ℕ, zero, suc, ◌≤◌, Bool, false, List, [], map, take, drop, None, slice_index_or}
 use Rattle.cnf.specs.declared.literals.Literal.{Literal}
 use Rattle.cnf.specs.Clauses.{Clause}
 use Rattle.job.specs.declared.rows.ClauseRow.{ClauseRow}
@@ -45,6 +45,10 @@ texts_in rows lits clauses = texts_of (take clauses rows) lits
 abbrev pub text_in : List Clause → (number : ℕ) → Clause
 text_in texts zero = []
 text_in texts (suc n) = slice_index_or texts n []
+
+-- this many clauses were entered, and one has this number
+abbrev pub Entered : (clauses n : ℕ) → Type 0
+Entered clauses n = (1 ≤ n) × (n ≤ clauses)
 
 -- all clauses of a job, the first entered first
 abbrev pub texts : View → List Clause

@@ -35,6 +35,7 @@ pub enum JobFault {
 }
 
 /// A job's fault carries the clause's fault whole.
+// By hand, since contracts name the fault that `?` makes, and a derived From has none.
 impl From<ClauseFault> for JobFault {
     ghost from_gives = { λ whole r. r ≡ Clause whole };
 

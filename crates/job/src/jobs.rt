@@ -2,6 +2,7 @@
 ghost use Rattle.job.specs.View.{texts_in};
 ghost use Rattle.job.specs.Sound.{Range, Rooms, Counts, Laid, Rising, Complete, Numbered, Unended, Dated, Ordered};
 
+use crate::jobs::opening::Size;
 use crate::rows::{ClauseRow, StepRow};
 use cnf::literals::Literal;
 
@@ -24,12 +25,7 @@ pub mod walking;
 // knows only that it is equal.
 #[derive(Drop)]
 pub struct Job<'a> {
-    /// The highest variable.
-    variables: u16,
-    /// How many clauses there are places for.
-    places: usize,
-    /// How many literals there are places for.
-    room: usize,
+    size: Size,
     records: &'a mut [ClauseRow],
     steps: &'a mut [StepRow],
     literals: &'a mut [Literal],
@@ -43,12 +39,13 @@ pub struct Job<'a> {
     /// How many literals stand.
     used: u16,
     /// Whether marks and arcs are those of an accepting check, with no call accepted since.
+    // A flag alone: the verdict itself is in the lent lists, as their marks and arcs.
     judged: bool,
-    ghost range: { Range variables places room },
-    ghost rooms: { Rooms places room records.now steps.now literals.now },
-    ghost counts: { Counts places room inputs clauses taken used },
+    ghost range: { Range size.variables size.places size.room },
+    ghost rooms: { Rooms size.places size.room records.now steps.now literals.now },
+    ghost counts: { Counts size.places size.room inputs clauses taken used },
     ghost laid: { Laid records.now clauses used },
-    ghost rising: { Rising variables (texts_in records.now literals.now clauses) clauses },
+    ghost rising: { Rising size.variables (texts_in records.now literals.now clauses) clauses },
     ghost complete: { Complete (texts_in records.now literals.now clauses) inputs steps.now taken clauses },
     ghost numbered: { Numbered (texts_in records.now literals.now clauses) inputs steps.now taken },
     ghost unended: { Unended (texts_in records.now literals.now clauses) steps.now taken },

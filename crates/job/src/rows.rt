@@ -3,6 +3,7 @@
 /// Where a clause's literals stand, when it was entered and struck, and whether the last check kept it.
 #[derive(Clone, Copy, PartialEq, Eq, Debug)]
 pub struct ClauseRow {
+    // A place and a length, and no slice: rows and literals both lie in lists that are lent and fixed.
     /// The place of its first literal.
     pub start: u16,
     /// How many literals it has.

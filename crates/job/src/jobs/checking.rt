@@ -15,7 +15,7 @@ impl Job<'_> {
     fn is_short<E: Engine>(&self, engine: &E) -> bool
         ensures { result ≡ too_small (machine_of (view self.now)) (lent_by (view self.now) (E.meaning engine.now)) }
     {
-        let places = (self.clauses - self.inputs) as usize * (self.variables as usize + 1);
+        let places = (self.clauses - self.inputs) as usize * (self.size.variables as usize + 1);
         engine.text_limit() < self.clauses
             || engine.literal_limit() < self.used
             || self.arcs.len() < places
@@ -26,8 +26,7 @@ impl Job<'_> {
         requires { 1 ≤ self.old.clauses }
         ensures { Becomes self.old (begun (view self.old)) self.new }
     {
-        self.wipe();
-        self.unmark();
+        self.clear();
         self.keep(&[self.clauses]);
     }
 
@@ -50,8 +49,7 @@ impl Job<'_> {
                 answers: engine.answers(),
             }),
             Err(step) => {
-                self.wipe();
-                self.unmark();
+                self.clear();
                 Err(JobFault::Fails { step })
             }
         }

@@ -1,12 +1,12 @@
 //! How clauses are entered: input clauses, and then lemmas.
-ghost use Rattle.std.specs.Prelude.{◌≡◌, ◌+◌, ◌*◌, ◌<◌, ◌≤◌, length, is_ok};
+ghost use Rattle.std.specs.Prelude.{◌≡◌, ◌*◌, ◌<◌, length, is_ok};
 ghost use Rattle.cnf.specs.Arranging.{arranged};
 ghost use Rattle.drup.specs.Forward.{clause as tell_clause, lemma as tell_lemma};
 ghost use Rattle.drup.specs.Box.{Happens, called};
 ghost use Rattle.job.specs.Seen.{view, Becomes};
 ghost use Rattle.job.specs.History.{box_in};
 ghost use Rattle.job.specs.Sound.{Sound};
-ghost use Rattle.job.specs.Calls.{refusal, clause_answer, lemma_answer, laying, storing, counting_input, counting_lemma, with_input, with_lemma};
+ghost use Rattle.job.specs.Calls.{refusal, HasRoom, clause_answer, lemma_answer, laying, storing, counting_input, counting_lemma, with_input, with_lemma};
 
 use crate::faults::JobFault;
 use crate::jobs::Job;
@@ -14,10 +14,11 @@ use crate::rows::{ClauseRow, StepRow};
 use cnf::drafts::arranging::arrange;
 use cnf::literals::Literal;
 
+// The length of a clause is cast by `as`: where there is room for it, it is at most 32768.
 impl Job<'_> {
     /// Copies literals behind those in use.
     fn lay(&mut self, clause: &[Literal])
-        requires { self.old.used + length clause.now ≤ self.old.room }
+        requires { HasRoom (view self.old) (length clause.now) }
         ensures { Becomes self.old (laying (view self.old) clause.now (length clause.now)) self.new }
     {
         let start = self.used as usize;
@@ -26,7 +27,7 @@ impl Job<'_> {
 
     /// Writes a clause and its row behind those in use.
     fn store(&mut self, clause: &[Literal], entered: u16)
-        requires { (self.old.clauses < self.old.places) × (self.old.used + length clause.now ≤ self.old.room) }
+        requires { HasRoom (view self.old) (length clause.now) }
         ensures { Becomes self.old (storing (view self.old) clause.now entered) self.new }
     {
         self.lay(clause);
@@ -41,7 +42,7 @@ impl Job<'_> {
 
     /// Counts what was stored as an input clause with so many literals.
     fn count_input(&mut self, count: u16)
-        requires places { (self.old.clauses < self.old.places) × (self.old.used + count ≤ self.old.room) }
+        requires room { HasRoom (view self.old) count }
         requires sound { Sound (counting_input (view self.old) count) }
         ensures { Becomes self.old (counting_input (view self.old) count) self.new }
     {
@@ -53,7 +54,8 @@ impl Job<'_> {
 
     /// Counts what was stored as a lemma with so many literals, and adds its step.
     fn count_lemma(&mut self, count: u16)
-        requires places { (self.old.clauses < self.old.places) × ((self.old.used + count ≤ self.old.room) × (self.old.taken < 2 * self.old.places)) }
+        requires room { HasRoom (view self.old) count }
+        requires place { self.old.taken < 2 * self.old.size.places }
         requires sound { Sound (counting_lemma (view self.old) count) }
         ensures { Becomes self.old (counting_lemma (view self.old) count) self.new }
     {
@@ -71,7 +73,7 @@ impl Job<'_> {
         ensures answer { result ≡ clause_answer (view self.old) literals.now }
         ensures happens { Happens (box_in (view self.old)) (called (tell_clause literals.now) (refusal result)) (box_in (view self.new)) }
     {
-        let draft = arrange(self.variables, literals);
+        let draft = arrange(self.size.variables, literals);
         let clause = draft.clause()?;
         if self.taken > 0 {
             return Err(JobFault::Begun);
@@ -90,7 +92,7 @@ impl Job<'_> {
         ensures answer { result ≡ lemma_answer (view self.old) literals.now }
         ensures happens { Happens (box_in (view self.old)) (called (tell_lemma literals.now) (refusal result)) (box_in (view self.new)) }
     {
-        let draft = arrange(self.variables, literals);
+        let draft = arrange(self.size.variables, literals);
         let clause = draft.clause()?;
         if self.is_ended() {
             return Err(JobFault::Ended);

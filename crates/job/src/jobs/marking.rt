@@ -4,23 +4,24 @@ ghost use Rattle.std.proofs.Math.Seq.{paste};
 ghost use Rattle.cnf.specs.Clauses.{◌∈◌};
 ghost use Rattle.drup.specs.Marks.{sieved};
 ghost use Rattle.drup.specs.Reading.{marks_of};
-ghost use Rattle.job.specs.View.{marks, with_rows, with_arcs};
+ghost use Rattle.job.specs.View.{marks, with_rows, with_arcs, Entered};
 ghost use Rattle.job.specs.History.{inputs_of};
 ghost use Rattle.job.specs.Seen.{view, Becomes};
 ghost use Rattle.job.specs.CheckLists.{mark_all, unmarked};
+ghost use Rattle.job.specs.Checking.{wiped};
 
 use crate::jobs::Job;
 
 impl Job<'_> {
     /// Sets all arcs to 0.
-    pub(crate) fn wipe(&mut self)
+    fn wipe(&mut self)
         ensures { Becomes self.old (with_arcs (replicate (length (view self.old).arcs) 0) (view self.old)) self.new }
     {
         self.arcs.fill(0);
     }
 
     /// Takes the marks of all clauses away.
-    pub(crate) fn unmark(&mut self)
+    fn unmark(&mut self)
         ensures { Becomes self.old (with_rows (unmarked self.old.clauses (view self.old).rows) (view self.old)) self.new }
     {
         for row in &mut self.records[..self.clauses as usize] {
@@ -28,9 +29,17 @@ impl Job<'_> {
         }
     }
 
+    /// Sets all arcs to 0, and takes all marks away.
+    pub(crate) fn clear(&mut self)
+        ensures { Becomes self.old (wiped (view self.old)) self.new }
+    {
+        self.wipe();
+        self.unmark();
+    }
+
     /// Marks the clauses with these numbers.
     pub(crate) fn keep(&mut self, numbers: &[u16])
-        requires { (n : ℕ) → n ∈ numbers.now → (1 ≤ n) × (n ≤ self.old.clauses) }
+        requires { (n : ℕ) → n ∈ numbers.now → Entered self.old.clauses n }
         ensures { Becomes self.old (with_rows (mark_all numbers.now (view self.old).rows) (view self.old)) self.new }
     {
         for number in numbers {

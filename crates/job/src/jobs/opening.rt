@@ -29,6 +29,7 @@ pub struct Size {
 
 /// Whether a job of this size can be opened over these lists: `places` records, twice as many steps, and `room`
 /// literals. Longer lists do, too.
+// The lists stand apart, as at `open`.
 pub fn fits(
     size: Size,
     records: &[ClauseRow],
@@ -61,22 +62,13 @@ pub fn open<'a>(
 ) -> Job<'a>
     ensures lent { (result.records.ghost_name ≡ records.entry.ghost_name) × (result.steps.ghost_name ≡ steps.entry.ghost_name) × (result.literals.ghost_name ≡ literals.entry.ghost_name) × (result.arcs.ghost_name ≡ arcs.entry.ghost_name) }
     ensures holds { view result ≡ opened_over size records.old steps.old literals.old arcs.old }
-    ensures starts { box_in (view result) ≡ new_box result.variables result.places result.room }
+    ensures starts { box_in (view result) ≡ new_box result.size.variables result.size.places result.size.room }
 {
-    let fitting = fits(size, records, steps, literals);
-    let Size {
-        variables,
-        places,
-        room,
-    } = if fitting.is_ok() {
-        size
-    } else {
-        Size::default()
-    };
+    let size = fits(size, records, steps, literals)
+        .map(|()| size)
+        .unwrap_or_default();
     Job {
-        variables,
-        places,
-        room,
+        size,
         records,
         steps,
         literals,

@@ -22,6 +22,7 @@ fn done<T: Drop>(answer: Result<T, JobFault>) -> Result<(), JobFault>
 
 impl Job<'_> {
     /// Makes a call, and refuses where it does.
+    // A match over calls as data, and no closures: what is proved of `replay` is about any list of calls.
     pub(crate) fn obey<E: Engine>(&mut self, engine: &mut E, order: Order) -> Result<(), JobFault>
         ensures lent { SameLent self.old self.new }
         ensures came { Came (view self.old) order.entry result (view self.new) }
@@ -39,6 +40,7 @@ impl Job<'_> {
 /// Opens a job over lent lists, makes these calls with any engine, and refuses where the last of them does. What happens
 /// is a run of the box, and after each event the box agrees with a forward check that was fed just the arguments of the
 /// calls.
+// The lists stand apart, as at `open`.
 pub fn replay<E: Engine>(
     size: Size,
     records: &mut [ClauseRow],

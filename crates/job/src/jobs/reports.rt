@@ -13,8 +13,8 @@ pub struct Report {
     pub answers: u32,
 }
 
-/// How many lemmas have passed so far, and how many numbers stand in their rows.
-#[derive(Clone, Copy)]
+/// How many lemmas passed, and how many numbers stand in their rows.
+#[derive(Clone, Copy, Default)]
 pub(crate) struct Tally {
     pub lemmas: usize,
     pub arcs: usize,

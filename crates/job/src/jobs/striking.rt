@@ -4,6 +4,7 @@ ghost use Rattle.cnf.specs.Arranging.{arranged};
 ghost use Rattle.drup.specs.Forward.{strike as tell_strike, withdraw as tell_withdraw};
 ghost use Rattle.drup.specs.Box.{Happens, called};
 ghost use Rattle.job.specs.declared.rows.StepRow.TheVariants.{Lemma, Strike};
+ghost use Rattle.job.specs.View.{Entered};
 ghost use Rattle.job.specs.Seen.{view, Becomes};
 ghost use Rattle.job.specs.History.{box_in};
 ghost use Rattle.job.specs.Sound.{Sound};
@@ -18,8 +19,8 @@ use cnf::literals::Literal;
 impl Job<'_> {
     /// Adds a step that strikes the live clause with this number.
     fn put_strike(&mut self, n: u16)
-        requires number { (1 ≤ n) × (n ≤ self.old.clauses) }
-        requires place { self.old.taken < 2 * self.old.places }
+        requires number { Entered self.old.clauses n }
+        requires place { self.old.taken < 2 * self.old.size.places }
         requires sound { Sound (with_strike true (view self.old) n) }
         ensures { Becomes self.old (with_strike true (view self.old) n) self.new }
     {
@@ -36,21 +37,19 @@ impl Job<'_> {
         ensures answer { result ≡ strike_answer (view self.old) literals.now }
         ensures happens { Happens (box_in (view self.old)) (called (tell_strike literals.now) (refusal result)) (box_in (view self.new)) }
     {
-        let draft = arrange(self.variables, literals);
+        let draft = arrange(self.size.variables, literals);
         let clause = draft.clause()?;
         if self.is_ended() {
             return Err(JobFault::Ended);
         }
-        let Some(n) = self.live_copy(clause) else {
-            return Err(JobFault::NoneLive);
-        };
+        let n = self.live_copy(clause).ok_or(JobFault::NoneLive)?;
         self.put_strike(n);
         Ok(n)
     }
 
     /// Takes back the lemma with this number, which the latest step learned.
     fn forget(&mut self, n: u16)
-        requires number { (1 ≤ n) × (n ≤ self.old.clauses) }
+        requires number { Entered self.old.clauses n }
         requires some { 1 ≤ self.old.taken }
         requires sound { Sound (without true (view self.old) (Lemma n)) }
         ensures { Becomes self.old (without true (view self.old) (Lemma n)) self.new }
@@ -63,7 +62,7 @@ impl Job<'_> {
 
     /// Brings the clause with this number back to life, which the latest step struck.
     fn revive(&mut self, n: u16)
-        requires number { (1 ≤ n) × (n ≤ self.old.clauses) }
+        requires number { Entered self.old.clauses n }
         requires some { 1 ≤ self.old.taken }
         requires sound { Sound (without true (view self.old) (Strike n)) }
         ensures { Becomes self.old (without true (view self.old) (Strike n)) self.new }
@@ -80,10 +79,7 @@ impl Job<'_> {
         ensures answer { result ≡ withdraw_answer (view self.old) }
         ensures happens { Happens (box_in (view self.old)) (called tell_withdraw (refusal result)) (box_in (view self.new)) }
     {
-        if self.taken == 0 {
-            return Err(JobFault::NoStep);
-        }
-        let step = self.steps[self.taken as usize - 1];
+        let step = self.last().ok_or(JobFault::NoStep)?;
         match step {
             StepRow::Lemma(n) => self.forget(n),
             StepRow::Strike(n) => self.revive(n),

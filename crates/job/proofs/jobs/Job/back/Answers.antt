@@ -36,5 +36,4 @@ judge-requires g c =
     record {
       holds = subst (λ (x : Meaning). Holds x s) (sym c.off.ensures.does) (holds_off s o i c.requires.step n c.in-Lemma.is m c.requires.holds c.requires.shows);
       room = (r.0, r.1, c.requires.rooms n r.0 r.1);
-      raisable = c.requires.raisable;
     }

@@ -5,6 +5,5 @@ use Rattle.job.proofs.jobs.Job.begin.Goals as goal
 
 pub keep-requires : goal.keep-requires
 keep-requires c n x =
-    let e = ap (λ (v : View). v.clauses) c.wipe.ensures.after in
-    let f = ap (λ (v : View). v.clauses) c.unmark.ensures.after in
-    one_only c.unmark.new.self.clauses c.unmark.new.self.clauses n (omega (arith, c.requires)) (omega arith) x
+    let e = ap (λ (v : View). v.clauses) c.clear.ensures.after in
+    one_only c.clear.new.self.clauses c.clear.new.self.clauses n (omega (arith, c.requires)) (omega arith) x

@@ -50,7 +50,7 @@ count_input-requires c =
     let used = ap (λ (t : View). t.used) stored in
     let most = ap (λ (t : View). t.room) stored in
     record {
-      places = (omega (arith, room.0), omega (arith, room.1));
+      room = (omega (arith, room.0), omega (arith, room.1));
       sound = subst Sound (sym (ap (λ (t : View). counting_input t (length x)) stored)) (sound_input s (sound j) x none room.0 room.1 m.rises);
     }
 

@@ -7,7 +7,7 @@ use Rattle.job.specs.Seen.{view}
 use Rattle.job.specs.History.{steps_of}
 use Rattle.job.proofs.Keeping.{sound}
 use Rattle.job.proofs.Standing.{row_live}
-use Rattle.job.proofs.Copies.{same_pointwise, copy_down}
+use Rattle.job.proofs.Copies.{same_pointwise}
 use Rattle.job.proofs.jobs.Job.is_live_copy.Goals as goal
 
 pub returns-then-eq : goal.returns-then-eq
@@ -24,9 +24,7 @@ returns-then-eq c =
     ∙ row_live (view j) (sound j) (n - 1) (omega (arith, c.requires.1))
     ∙ ap (λ (k : ℕ). not (is_struck k steps)) e in
     let same = sym c.if-eq.true ∙ c.eq.ensures ∙ same_pointwise clause c.text.result.now ∙ ap (same_clause clause) c.text.ensures in
-    let answer : c.is_live.result ≡ (same_clause clause (text n) && not (is_struck n steps)) =
-    live ∙ ap (λ (b : Bool). b && not (is_struck n steps)) same in
-    record { answer = answer; lower = copy_down clause text steps n c.is_live.result c.requires.0 answer }
+    live ∙ ap (λ (b : Bool). b && not (is_struck n steps)) same
 
 pub returns-else-eq : goal.returns-else-eq
 returns-else-eq c =
@@ -36,6 +34,4 @@ returns-else-eq c =
     let text = text_in (texts (view j)) in
     let steps = steps_of (view j) in
     let same = c.eq.ensures ∙ same_pointwise clause c.text.result.now ∙ ap (same_clause clause) c.text.ensures in
-    let answer : c.eq.result ≡ (same_clause clause (text n) && not (is_struck n steps)) =
-    c.if-eq.false ∙ sym (and_left _ _ (sym same ∙ c.if-eq.false)) in
-    record { answer = answer; lower = copy_down clause text steps n c.eq.result c.requires.0 answer }
+    c.if-eq.false ∙ sym (and_left _ _ (sym same ∙ c.if-eq.false))

@@ -29,10 +29,10 @@ returns-then-literal_limit-self g c =
     let j = c.args.self.now in
     let few = engine_short g (goal.at.returns-then-literal_limit-self g c).Joined-text_limit-self in
     c.if-literal_limit-self.true
-    ∙ sym (short_is (view j) (fit (view j) (sound j)) (g.E.Engine.meaning c.args.engine.now) ∙ ap (λ (b : Bool). b || ltb (length j.arcs.now) ((j.clauses - j.inputs) * (j.variables + 1))) (sym few ∙ c.if-literal_limit-self.true))
+    ∙ sym (short_is (view j) (fit (view j) (sound j)) (g.E.Engine.meaning c.args.engine.now) ∙ ap (λ (b : Bool). b || ltb (length j.arcs.now) ((j.clauses - j.inputs) * (j.size.variables + 1))) (sym few ∙ c.if-literal_limit-self.true))
 
 pub returns-else-literal_limit-self : goal.returns-else-literal_limit-self
 returns-else-literal_limit-self g c =
     let j = c.args.self.now in
     let few = engine_short g (goal.at.returns-else-literal_limit-self g c).Joined-text_limit-self in
-    sym (short_is (view j) (fit (view j) (sound j)) (g.E.Engine.meaning c.args.engine.now) ∙ ap (λ (b : Bool). b || ltb (length j.arcs.now) ((j.clauses - j.inputs) * (j.variables + 1))) (sym few ∙ c.if-literal_limit-self.false))
+    sym (short_is (view j) (fit (view j) (sound j)) (g.E.Engine.meaning c.args.engine.now) ∙ ap (λ (b : Bool). b || ltb (length j.arcs.now) ((j.clauses - j.inputs) * (j.size.variables + 1))) (sym few ∙ c.if-literal_limit-self.false))

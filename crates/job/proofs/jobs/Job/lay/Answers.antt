@@ -11,5 +11,5 @@ invariant_of-self c =
     let j = c.args.self.now in
     let s = view j in
     let ls = c.args.clause.now in
-    let laid = put_mid-paste s.used _ s.lits c.copy_from_slice.new.self ls (length ls) c.copy_from_slice.ensures.after (omega arith) refl in
-    held _ (subst Sound (ap (λ ls. with_lits ls s) (sym laid)) (sound_laid s ls c.requires (sound j)))
+    let laid = put_mid-paste s.used _ s.lits c.copy_from_slice.new.self ls (length ls) c.copy_from_slice.ensures.after (omega (arith, c.requires.1)) refl in
+    held _ (subst Sound (ap (λ ls. with_lits ls s) (sym laid)) (sound_laid s ls c.requires.1 (sound j)))

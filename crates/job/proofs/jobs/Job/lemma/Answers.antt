@@ -51,7 +51,8 @@ count_lemma-requires c =
     let most = ap (λ (t : View). t.room) stored in
     let taken = ap (λ (t : View). t.taken) stored in
     record {
-      places = (omega (arith, room.0), (omega (arith, room.1), omega arith));
+      room = (omega (arith, room.0), omega (arith, room.1));
+      place = omega arith;
       sound = subst Sound (sym (ap (λ (t : View). counting_lemma t (length x)) stored)) (sound_lemma s (sound j) x room.0 room.1 (sym c.if-is_ended.ensures) m.rises);
     }
 

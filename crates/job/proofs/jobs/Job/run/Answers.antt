@@ -49,13 +49,12 @@ returns-in-Err g c =
     let q = ap (λ (x : Meaning). x.answers) c.darken.ensures.does in
     let l₁ = c.begin.ensures.lent in
     let l₂ = c.walk-walked.ensures.lent in
-    let l₃ = c.wipe.ensures.lent in
-    let l₄ = c.unmark.ensures.lent in
+    let l₃ = c.clear.ensures.lent in
     let t = turns_down s s₁ f₁ o₁ m₂ m₃ q c.in-Err.step (subst (λ r. Walked s₁ r s₂ m₂) c.in-Err.is c.walk-walked.ensures.walked) in
     record {
-      lent = (l₄.0 ∙ l₃.0 ∙ l₂.0 ∙ l₁.0, l₄.1 ∙ l₃.1 ∙ l₂.1 ∙ l₁.1, l₄.2 ∙ l₃.2 ∙ l₂.2 ∙ l₁.2, l₄.3 ∙ l₃.3 ∙ l₂.3 ∙ l₁.3);
+      lent = (l₃.0 ∙ l₂.0 ∙ l₁.0, l₃.1 ∙ l₂.1 ∙ l₁.1, l₃.2 ∙ l₂.2 ∙ l₁.2, l₃.3 ∙ l₂.3 ∙ l₁.3);
       comes = (
-        wiped_framed s s₂ f₂ (view c.wipe.new.self) (view c.unmark.new.self) c.wipe.ensures.after c.unmark.ensures.after,
+        c.clear.ensures.after ∙ wiped_framed s s₂ f₂,
         (c.in-Err.step, refl, t),
       );
       idle = idle_after s s₁ m₂ m₃ f₁ h.0 s₂.clauses (clauses_framed s s₂ f₂) c.darken.ensures.does;
