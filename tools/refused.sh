@@ -4,12 +4,14 @@
 # Each edit of refused/ is made in a copy of the repository, where the edited crate is then checked. It counts as
 # refused only if the compiler names the edited file and the error that the edit expects.
 #
-# An edit has five lines:
+# An edit has these lines:
 #   crate: NAME         the crate to edit and to check
 #   file: src/lib.rt    a file of that crate
 #   old: TEXT           what stands there, on one line and only once
 #   new: TEXT           what takes its place
-#   error: CODE         the error, as in 'error[CODE]'
+#   error: CODE         the error, as in 'error[CODE]'; or one of several, where builds of the toolchain name it differently
+#   in: CRATE/FILE      only with `hidden`: the file that keeps a name for its crate
+#   hidden: TEXT        what stands in that file, so that the name isn't refused for being misspelt
 #
 # Usage: tools/refused.sh [EDIT...]     without EDIT: all of refused/
 # The copy has no out/: the crates below an edited one are proved there first, unless a check on this machine kept them.
@@ -46,20 +48,30 @@ for edit in "$@"; do
     name=$(basename "$edit" .edit)
     crate=$(field crate "$edit")
     file=$(field file "$edit")
-    code=$(field error "$edit")
+    codes=$(field error "$edit")
+    within=$(field in "$edit")
     from=$root/crates/$crate/$file
     to=$work/crates/$crate/$file
     if ! OLD=$(field old "$edit") NEW=$(field new "$edit") replace "$from" >"$to"; then
         echo "BAD EDIT: $name"
         failed=$((failed + 1))
+    elif [ -n "$within" ] && ! grep -qF -e "$(field hidden "$edit")" "$root/crates/$within"; then
+        echo "NOTHING HIDDEN: $name ($within)"
+        failed=$((failed + 1))
     else
         said=$(cd "$work/crates/$crate" && rt check 2>&1)
         status=$?
-        if [ "$status" -eq 1 ] && printf '%s\n' "$said" | grep -F "$file:" | grep -qF "error[$code]"; then
-            echo "refused: $name ($code)"
+        found=
+        for code in $codes; do
+            if printf '%s\n' "$said" | grep -F "$file:" | grep -qF "error[$code]"; then
+                found=$code
+            fi
+        done
+        if [ "$status" -eq 1 ] && [ -n "$found" ]; then
+            echo "refused: $name ($found)"
             refused=$((refused + 1))
         else
-            echo "NOT REFUSED AS EXPECTED: $name (status $status, expected error[$code])"
+            echo "NOT REFUSED AS EXPECTED: $name (status $status, expected error[$codes])"
             printf '%s\n' "$said" | grep -E 'error|proved|PROVED|no proof' | head -n 5
             failed=$((failed + 1))
         fi
