@@ -43,7 +43,17 @@ pub struct Forced {
 
 /// By rising variable; of a variable's two literals the positive one comes first.
 impl TotalOrder for Literal {
+    ghost before = { earlier };
+
+    ghost irreflexive = { Prim.search rules };
+
+    ghost transitive = { Prim.search rules };
+
     ghost connected = { Prim.search rules };
+
+    fn is_before(&self, other: &Literal) -> bool {
+        self < other
+    }
 }
 
 /// The derived order is by rising variable; of a variable's two literals the positive one comes first.

@@ -8,12 +8,13 @@ use Rattle.cnf.specs.Arranging.{arranged}
 use Rattle.engine.specs.declared.answers.Answer.{Answer}
 use Rattle.engine.specs.declared.answers.Answer.TheVariants.{Conflict, Forced as ForcedBy, Nothing}
 use Rattle.engine.specs.declared.faults.EngineFault.{EngineFault}
+use Rattle.engine.specs.declared.faults.EngineFault.TheVariants.{AlreadyOn}
 use Rattle.engine.specs.Meaning.{Meaning, On, with_text, with_mark, joined_by, no_text, no_put, no_on, no_off, no_assume, Says, answered, Does, Puts, TurnsOn, TurnsOff, Prefers, Assumes, Next, WellFormed}
 use Rattle.core_first.specs.Core.{Together, told, Asked}
 use Rattle.engine.proofs.Consistent.{number_is_in}
 use Rattle.engine.proofs.Refusing.{on_already, on_done, off_not, off_done}
-use Rattle.core_first.proofs.CoreServes.{done, put_free, on_fault, on_free, off_fault, off_free, on_allowed, says_up, told_free}
-use Rattle.core_first.proofs.CoreTogether.{on_first, on_second, off_both, off_first, rest_on, rest_off, first_off, to_first, together_text, together_first, together_second, together_counted, nothing_both}
+use Rattle.core_first.proofs.CoreServes.{done, put_free, assume_free, on_fault, on_free, off_fault, off_free, on_allowed, says_up, told_free}
+use Rattle.core_first.proofs.CoreTogether.{on_first, on_second, off_both, off_first, rest_on, rest_off, first_off, to_first, now_first, together_text, together_joined, together_first, together_second, together_counted, nothing_both}
 
 -- both sides are what they are said to be
 at_both : {p p' r r' m : Meaning} → p' ≡ p → r' ≡ r → Together p r m → Together p' r' m
@@ -28,12 +29,29 @@ put_both p r m p' r' ls x y f h free t =
     (done (no_put r ls) r (with_text (arranged ls) r) y r' h (put_free r m t.rest ls free))
     (together_text p r m t (arranged ls))
 
+-- a literal that can be assumed joins both trails
+pub assume_both : (p r m p' r' : Meaning) (l : Literal) (x y : Result (Unit {0}) EngineFault)
+    → Assumes p l x p' → Assumes r l y r' → no_assume m l ≡ None → Together p r m → Together p' r' (joined_by l 0 m)
+assume_both p r m p' r' l x y f h free t =
+    at_both
+    (done (no_assume p l) p (joined_by l 0 p) x p' f (assume_free p m t.preferred l free))
+    (done (no_assume r l) r (joined_by l 0 r) y r' h (assume_free r m t.rest l free))
+    (together_joined p r m t l)
+
 -- a text is turned, or the call is refused, and the sides stand for what that leaves
 abbrev Turned : (p r m : Meaning) → Option EngineFault → (after : Meaning) → Result (Unit {0}) EngineFault → Type 0
 Turned p r m refusal after x = (k : Meaning) × Does refusal m after x k × Together p r k
 
 module _ (p r m : Meaning) (s : Together p r m) (n : ℕ) (o : m.opened ≡ false) (t : no_text m n ≡ false) where
-  -- the rest is asked, where the preferred side has it off
+  -- the preferred side has it on
+  pub on_in_first : (p' : Meaning) → Prefers p n (Ok tt) p' → Turned p' r m (no_on m n) (with_mark n true m) (Err AlreadyOn)
+  on_in_first p' f = (
+    m,
+    (on_already m n o t (on_first p r m s n (off_free p m s.preferred n o t f.0)), refl),
+    at_both f.1 refl s,
+  )
+
+  -- else the rest is asked
   pub on_in_rest : (p' r' : Meaning) (e : EngineFault) (x : Result (Unit {0}) EngineFault) → Prefers p n (Err e) p' → TurnsOn r n x r'
       → Turned p' r' m (no_on m n) (with_mark n true m) x
   on_in_rest p' r' e (Ok u) f h =
@@ -75,7 +93,7 @@ module _ (p r m : Meaning) (s : Together p r m) (n : ℕ) (o : m.opened ≡ fals
 
   -- a text that the rest had on is turned on in the preferred side, where it was off
   pub prefer_in_rest : (p' r' : Meaning) (x : Result (Unit {0}) EngineFault) → TurnsOff r n (Ok tt) r' → TurnsOn p n x p'
-      → Turned p' r' m (no_off m n) m x
+      → Turned p' r' m (no_off m n) m x × On p' n
   prefer_in_rest p' r' x f h = go x h
     where
       a : On r n
@@ -84,12 +102,12 @@ module _ (p r m : Meaning) (s : Together p r m) (n : ℕ) (o : m.opened ≡ fals
       free : no_on p n ≡ None
       free = on_allowed p m s.preferred n o t (off_first p r m s n a)
 
-      go : (x : Result (Unit {0}) EngineFault) → TurnsOn p n x p' → Turned p' r' m (no_off m n) m x
-      go (Ok w) h = (
-        m,
-        (off_done m n o t (on_second p r m s n a), refl),
-        at_both h.1 f.1 (to_first p r m s n (number_is_in (length m.texts) n t).0 a),
-      )
+      go : (x : Result (Unit {0}) EngineFault) → TurnsOn p n x p' → Turned p' r' m (no_off m n) m x × On p' n
+      go (Ok w) h =
+          let low = (number_is_in (length m.texts) n t).0 in (
+            (m, (off_done m n o t (on_second p r m s n a), refl), at_both h.1 f.1 (to_first p r m s n low a)),
+            subst (λ (z : Meaning). On z n) (sym h.1) (now_first p r m s n low a),
+          )
       go (Err e) h = absurd (none-some e (sym free ∙ h.0))
 
   -- else the preferred side says whether it has it on
@@ -107,6 +125,11 @@ module _ (p r m : Meaning) (s : Together p r m) (n : ℕ) (o : m.opened ≡ fals
         (off_not m n o t (off_both p r m s n q.0 a) ∙ ap (λ (z : EngineFault). Some z) q.1, refl),
         at_both h.1 f.1 s,
       )
+
+  -- and then has it on, if it accepts
+  pub preferred_on : (p' : Meaning) (x : Result (Unit {0}) EngineFault) → Prefers p n x p' → x ≡ Ok tt → On p' n
+  preferred_on p' (Ok u) h e = subst (λ (z : Meaning). On z n) (sym h.1) (off_free p m s.preferred n o t h.0)
+  preferred_on p' (Err d) h e = absurd cc
 
 -- an engine is forced to a literal, and another with the same values assumes it
 pub asked_forced : (a b a' b' : Meaning) → WellFormed a → (r : Result Answer EngineFault) (f : Forced) (x : Result (Unit {0}) EngineFault)

@@ -1,7 +1,7 @@
 -- The marks of two sides together.
 use Rattle.std.proofs.Common.{◌≡◌, ℕ, zero, suc, ◌-◌, ◌≤◌, Bool, true, false, ◌||◌, ◌⊎◌, List, [], ◌∷◌, ◌++◌, length, get_or, set, sym, refl, ap, ◌∙◌, inl, inr, ⊎_elim, arith}
 use Rattle.std.proofs.lemmas.Bool.{both_ways, cases_eq}
-use Rattle.std.proofs.lemmas.List.{get_or-set_other, set-get_or}
+use Rattle.std.proofs.lemmas.List.{get_or-set_same, get_or-set_other, set-get_or}
 use Rattle.engine.specs.Meaning.{mark_in}
 use Rattle.core_first.specs.Core.{either}
 
@@ -43,6 +43,9 @@ at_number xs (suc k) h = let back : k ≡ suc k - 1 = omega arith in ap (λ (j :
 
 pub same_mark : (xs : List Bool) (n : ℕ) (b : Bool) → 1 ≤ n → mark_in xs n ≡ b → set xs (n - 1) b ≡ xs
 same_mark xs n b h e = ap (set xs (n - 1)) (sym e ∙ at_number xs n h) ∙ set-get_or xs (n - 1) false
+
+pub on_there : (xs : List Bool) (n : ℕ) → 1 ≤ n → n ≤ length xs → mark_in (set xs (n - 1) true) n ≡ true
+on_there xs n low high = at_number (set xs (n - 1) true) n low ∙ get_or-set_same xs (n - 1) true false (omega arith)
 
 other_mark : (xs : List Bool) (n k : ℕ) (b : Bool) → 1 ≤ n → (k ≡ n → ⊥) → mark_in (set xs (n - 1) b) k ≡ mark_in xs k
 other_mark xs n zero b low d = refl

@@ -5,15 +5,16 @@ use Rattle.std.proofs.lemmas.Option.{cond_some, none-some}
 use Rattle.std.proofs.lemmas.List.{map_push}
 use Rattle.cnf.specs.declared.literals.Literal.{Literal}
 use Rattle.cnf.specs.Clauses.{Clause, literals}
-use Rattle.cnf.specs.Arranging.{names, beyond, twice}
+use Rattle.cnf.specs.declared.faults.ClauseFault.TheVariants.{OutOfRange}
+use Rattle.cnf.specs.Arranging.{outside, names, beyond, twice}
 use Rattle.cnf.specs.Propagation.{Falsified, Forces}
 use Rattle.cnf.proofs.Derivations.{forced_new}
 use Rattle.cnf.specs.declared.literals.Forced.{Forced}
 use Rattle.engine.specs.declared.answers.Answer.{Answer}
 use Rattle.engine.specs.declared.answers.Answer.TheVariants.{Conflict, Forced as ForcedBy, Nothing}
 use Rattle.engine.specs.declared.faults.EngineFault.{EngineFault}
-use Rattle.engine.specs.declared.faults.EngineFault.TheVariants.{AlreadyOn, NotOn}
-use Rattle.engine.specs.Meaning.{Meaning, WellFormed, highest, On, is_on, values, values_of, text_in, text_of, entry, with_text, with_on, counted, no_text, no_room, no_put, no_on, no_off, no_assume, Says, answered, Does}
+use Rattle.engine.specs.declared.faults.EngineFault.TheVariants.{Clause as Faulty, AlreadyOn, NotOn, HasValue, NoTrial}
+use Rattle.engine.specs.Meaning.{Meaning, WellFormed, highest, On, is_on, values, values_of, text_in, text_of, entry, with_text, with_on, joined_by, counted, no_text, no_room, no_put, no_on, no_off, no_assume, Says, answered, Does}
 use Rattle.core_first.specs.Core.{Serves, told}
 use Rattle.engine.proofs.Keeping.{unbroken, forced_inside}
 use Rattle.engine.proofs.Refusing.{assume_done}
@@ -23,6 +24,12 @@ pub done : {T : Type 0} (refusal : Option EngineFault) (before after : Meaning) 
     → Does refusal before after r m → refusal ≡ None → m ≡ after
 done refusal before after (Ok x) m d e = d.1
 done refusal before after (Err f) m d e = absurd (none-some f (sym e ∙ d.0))
+
+-- a call that changes nothing either way
+pub still : {T : Type 0} (refusal : Option EngineFault) (before : Meaning) (r : Result T EngineFault) (m : Meaning)
+    → Does refusal before before r m → m ≡ before
+still refusal before (Ok x) m d = d.1
+still refusal before (Err f) m d = d.1
 
 module _ (s m : Meaning) (v : Serves s m) where
   -- a text for which the whole has room finds room
@@ -39,6 +46,13 @@ module _ (s m : Meaning) (v : Serves s m) where
       let many = ap literals v.texts in
       let room : no_room s (length ls) ≡ false = or_from (leb s.text_limit (length s.texts)) (ltb s.literal_limit (literals s.texts + length ls)) (lt-leb s.text_limit (length s.texts) (omega (arith, v.text_room))) (le-ltb s.literal_limit (literals s.texts + length ls) (omega (arith, v.literal_room))) in
       cond-false s.opened _ _ (v.opened ∙ a.0) ∙ cond-false (beyond highest ls) _ _ b.0 ∙ cond-false (twice ls) _ _ c.0 ∙ cond-false (no_room s (length ls)) _ _ room
+
+  -- and so does a literal that the whole can assume
+  pub assume_free : (l : Literal) → no_assume m l ≡ None → no_assume s l ≡ None
+  assume_free l e =
+      ap (λ (o : Bool). cond (not o) (Some NoTrial) (cond (outside highest l) (Some (Faulty (OutOfRange 0))) (cond (names l.variable (values s)) (Some HasValue) None))) v.opened
+      ∙ ap (λ (vs : List Literal). cond (not m.opened) (Some NoTrial) (cond (outside highest l) (Some (Faulty (OutOfRange 0))) (cond (names l.variable vs) (Some HasValue) None))) v.valued
+      ∙ e
 
   -- whether a text is on in a side shows in its refusals
   module _ (n : ℕ) (o : m.opened ≡ false) (t : no_text m n ≡ false) where
@@ -84,6 +98,9 @@ module _ (s m : Meaning) (v : Serves s m) where
 
   pub serves_marks : (a b : List Bool) → Serves (with_on a s) (with_on b m)
   serves_marks a b = serves_on a b _ _ _ _ v.valued
+
+  pub serves_joined : (l : Literal) (i j : ℕ) → Serves (joined_by l i s) (joined_by l j m)
+  serves_joined l i j = serves_on _ _ _ _ _ _ (joined l i j)
 
   pub serves_answered : (a : Answer) → Serves (answered s a) (answered m a)
   serves_answered (Conflict n) = serves_on _ _ _ _ _ _ v.valued

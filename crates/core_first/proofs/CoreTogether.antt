@@ -1,18 +1,38 @@
 -- Two sides that stand for a meaning together, through each call.
-use Rattle.std.proofs.Common.{◌≡◌, ℕ, zero, suc, ◌+◌, ◌-◌, ◌≤◌, Bool, true, false, ◌||◌, ◌⊎◌, List, [], ◌∷◌, ◌++◌, length, set, sym, refl, ap, ◌∙◌, ⊎_elim}
-use Rattle.std.proofs.lemmas.Bool.{or_from, or_left, or_right, or_cases, both_ways, cases_Bool}
+use Rattle.std.proofs.Common.{◌≡◌, ℕ, zero, suc, ◌+◌, ◌-◌, ◌≤◌, Bool, true, false, ◌||◌, leb, ◌⊎◌, List, [], ◌∷◌, ◌++◌, length, set, None, sym, refl, ap, ◌∙◌, ⊎_elim, arith}
+use Rattle.std.proofs.lemmas.Bool.{or_parts, or_from, or_left, or_right, or_cases, leb-false, both_ways, cases_Bool}
 use Rattle.std.proofs.lemmas.List.{length_push, length-set}
+use Rattle.cnf.specs.declared.literals.Literal.{Literal}
 use Rattle.cnf.specs.Clauses.{Clause}
+use Rattle.cnf.specs.Arranging.{beyond, twice}
 use Rattle.engine.specs.declared.answers.Answer.{Answer}
 use Rattle.engine.specs.declared.answers.Answer.TheVariants.{Conflict, Forced as ForcedBy, Nothing}
-use Rattle.engine.specs.Meaning.{Meaning, On, is_on, mark_in, with_text, with_on, with_mark, counted, Says, answered}
-use Rattle.core_first.specs.Core.{either, Serves, Together, BackedBy, told}
-use Rattle.core_first.proofs.CoreMarks.{either_set, either_push, mark_either, same_mark, left_on, new_on}
-use Rattle.core_first.proofs.CoreServes.{serves_text, serves_marks, serves_answered, serves_told, serves_counted, falsified_down, forces_down}
+use Rattle.engine.specs.Meaning.{Meaning, highest, On, is_on, mark_in, with_text, with_on, with_mark, joined_by, counted, no_text, no_room, no_put, Says, answered}
+use Rattle.engine.proofs.Consistent.{number_is_in}
+use Rattle.engine.proofs.Keeping.{unbroken, mark_within}
+use Rattle.core_first.specs.Core.{either, Serves, Together, Bare, BackedBy, told}
+use Rattle.core_first.proofs.CoreMarks.{either_set, either_push, mark_either, same_mark, on_there, left_on, new_on}
+use Rattle.core_first.proofs.CoreServes.{serves_text, serves_marks, serves_joined, serves_answered, serves_told, serves_counted, falsified_down, forces_down}
 
 -- sides that are linked
 pub backs : {b : Bool} {p r m : Meaning} → b ≡ true → Together p r m → BackedBy b p r m
 backs {b} e t = ((λ _. t), (λ f. absurd (both_ways b f e)))
+
+-- a bare meaning has no text, and takes none
+pub bare_number : (m : Meaning) → Bare m → (n : ℕ) → no_text m n ≡ false → ⊥
+bare_number m bare n t =
+    let h = number_is_in (length m.texts) n t in
+    let e = ap (λ (ts : List Clause). length ts) bare.texts in
+    omega arith
+
+pub bare_full : (m : Meaning) → Bare m → (ls : List Literal) → no_put m ls ≡ None → ⊥
+bare_full m bare ls e =
+    let a = unbroken m.opened _ _ e in
+    let b = unbroken (beyond highest ls) _ _ a.1 in
+    let c = unbroken (twice ls) _ _ b.1 in
+    let d = unbroken (no_room m (length ls)) _ _ c.1 in
+    let x = leb-false m.text_limit (length m.texts) (or_parts (leb m.text_limit (length m.texts)) _ d.0).0 in
+    omega (arith, bare.no_texts)
 
 -- an answer turns no text on or off
 answered_on : (m : Meaning) (a : Answer) → (answered m a).on ≡ m.on
@@ -91,6 +111,13 @@ module _ (p r m : Meaning) (t : Together p r m) where
         ⊎_elim c.0 (λ q. t.apart k q c.1) (new_on p.on n k low a))
         (length-set p.on (n - 1) true ∙ t.even ∙ sym (length-set r.on (n - 1) false))
 
+    pub now_first : On r n → On (with_mark n true p) n
+    now_first o = on_there p.on n low (within n o t.even)
+      where
+        within : (k : ℕ) → mark_in r.on k ≡ true → length p.on ≡ length r.on → k ≤ length p.on
+        within zero q e = omega arith
+        within (suc k) q e = let h = mark_within r.on k q in omega arith
+
   pub together_text : (c : Clause) → Together (with_text c p) (with_text c r) (with_text c m)
   together_text c = record {
     preferred = serves_text p m t.preferred c;
@@ -109,6 +136,15 @@ module _ (p r m : Meaning) (t : Together p r m) where
 
       off_at_end : (n : ℕ) → mark_in (p.on ++ false ∷ []) n ≡ true → mark_in (r.on ++ false ∷ []) n ≡ true → ⊥
       off_at_end n a b = t.apart n (sym (push_off p.on n) ∙ a) (sym (push_off r.on n) ∙ b)
+
+  pub together_joined : (l : Literal) → Together (joined_by l 0 p) (joined_by l 0 r) (joined_by l 0 m)
+  together_joined l = record {
+    preferred = serves_joined p m t.preferred l 0 0;
+    rest = serves_joined r m t.rest l 0 0;
+    marks = t.marks;
+    apart = t.apart;
+    even = t.even;
+  }
 
   -- sides that serve with the marks that they had
   as_marked : {p' r' m' : Meaning} → Serves p' m' → Serves r' m' → p'.on ≡ p.on → r'.on ≡ r.on → m.on ≡ m'.on → Together p' r' m'

@@ -7,7 +7,7 @@ use Rattle.engine.specs.declared.limits.Limits.{Limits}
 use Rattle.engine.specs.declared.limits.Room.{Room}
 use Rattle.engine.specs.declared.sessions.Session.{Session}
 use Rattle.engine.specs.Meaning.{Meaning, with_text, with_on, no_text, Does}
-use Rattle.engine.specs.Trails.{is_there, standing}
+use Rattle.engine.specs.Trails.{entries_of}
 use Rattle.engine.proofs.Keeping.{does_keeps, unbroken, literals_push}
 use Rattle.engine.proofs.Refusing.{alike}
 use Rattle.core_first.specs.declared.Sides.{Sides}
@@ -15,11 +15,11 @@ use Rattle.core_first.specs.Core.{BackedBy, held_texts, held_marks, no_turn}
 use Rattle.core_first.specs.CoreSides.{Backs, core_meaning, Whole}
 
 -- what the sides hold is what the meaning holds
-held_texts_lem : (b : Bool) (p r m : Meaning) → BackedBy b p r m → held_texts b p ≡ m.texts
+pub held_texts_lem : (b : Bool) (p r m : Meaning) → BackedBy b p r m → held_texts b p ≡ m.texts
 held_texts_lem true p r m h = (h.0 refl).preferred.texts
 held_texts_lem false p r m h = (h.1 refl).texts
 
-held_marks_lem : (b : Bool) (p r m : Meaning) → BackedBy b p r m → held_marks b p r ≡ m.on
+pub held_marks_lem : (b : Bool) (p r m : Meaning) → BackedBy b p r m → held_marks b p r ≡ m.on
 held_marks_lem true p r m h = (h.0 refl).marks
 held_marks_lem false p r m h = (h.1 refl).marks
 
@@ -33,7 +33,7 @@ can_turn m n e =
 module _ {P R : Type 0} (pm : P → Meaning) (rm : R → Meaning) where
   -- an engine whose parts are those of a meaning that its sides stand for
   pub stands : (z : Sides P R) (room : Room) (session : Session) (n : Meaning) → Backs pm rm z n
-      → standing session.trail ≡ n.trail → is_there session.trail ≡ n.opened → session.answers ≡ n.answers
+      → entries_of session.trail ≡ n.trail → session.opened ≡ n.opened → session.answers ≡ n.answers
       → room.limits.texts ≡ n.text_limit → room.limits.literals ≡ n.literal_limit → room.texts ≡ length n.texts → room.literals ≡ literals n.texts
       → (core_meaning pm rm z room session ≡ n) × Whole pm rm z room (core_meaning pm rm z room session)
   stands z room session n b c d e f g texts lits =

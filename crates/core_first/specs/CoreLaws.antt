@@ -9,7 +9,6 @@ use Rattle.engine.specs.declared.limits.Room.{Room}
 use Rattle.engine.specs.declared.sessions.Session.{Session}
 use Rattle.engine.specs.Meaning.{Meaning, WellFormed}
 use Rattle.engine.specs.Sessions.{in_session}
-use Rattle.engine.proofs.Parts.{no_trail}
 use Rattle.core_first.specs.declared.Sides.{Sides}
 use Rattle.core_first.specs.Core.{BackedBy, held}
 use Rattle.core_first.specs.CoreSides.{core_meaning, Whole}
@@ -24,7 +23,7 @@ well true p r room session w h texts lits =
       few_texts = subst (λ (n : ℕ). n ≤ room.limits.texts) texts room.few.0;
       few_literals = subst (λ (n : ℕ). n ≤ room.limits.literals) lits room.few.1;
       consistent = session.consistent;
-      at_rest = no_trail session.trail;
+      at_rest = session.at_rest;
       countable = session.countable;
       small = (le_trans t.preferred.text_room w.small.0, le_trans t.preferred.literal_room w.small.1);
     }
@@ -35,7 +34,7 @@ well false p r room session w h texts lits =
       few_texts = subst (λ (n : ℕ). n ≤ room.limits.texts) texts room.few.0;
       few_literals = subst (λ (n : ℕ). n ≤ room.limits.literals) lits room.few.1;
       consistent = session.consistent;
-      at_rest = no_trail session.trail;
+      at_rest = session.at_rest;
       countable = session.countable;
       small = (subst (λ (n : ℕ). n ≤ 4096) (sym bare.no_texts) (le_of_sub-eq-zero refl), subst (λ (n : ℕ). n ≤ 32768) (sym bare.no_literals) (le_of_sub-eq-zero refl));
     }

@@ -36,7 +36,7 @@ conflict_derives v n q inputs earlier c answers k formed right =
     record {
       its_number = refl;
       short = omega arith;
-      live = row_alive (text (table inputs earlier)) (Live inputs earlier) (map complement c) answers k right;
+      live = row_alive (text (table inputs earlier)) (text (table inputs earlier)) (Live inputs earlier) (map complement c) answers k right;
       lean = lean;
     }
 
@@ -80,7 +80,7 @@ grown inputs (learned c ∷ earlier) so_far count v r (inr (inl (k, answers, n, 
       kept_above = λ i h.
           g.kept_above i (omega arith)
           ∙ marked_same new.antecedents so_far.kept i
-          (λ m. let l = (row_alive (text (table inputs earlier)) (Live inputs earlier) (map complement c) answers n right i m).entered in omega arith);
+          (λ m. let l = (row_alive (text (table inputs earlier)) (text (table inputs earlier)) (Live inputs earlier) (map complement c) answers n right i m).entered in omega arith);
       rows_new = λ row m. elim (g.rows_new row m) [
         | inl x ↦ elim (in-cons x) [
           | inl e ↦ inr (let h = ap (λ (y : Row). y.lemma_number) e in omega arith)

@@ -1,11 +1,11 @@
 -- Writing marks and rows into lists, and reading them back.
-use Rattle.std.proofs.Common.{◌≡◌, ℕ, zero, suc, ◌+◌, ◌<◌, ◌≤◌, Bool, true, false, eqb, List, [], ◌∷◌, map, length, get_or, set, replicate, sym, refl, ap, ◌∙◌, inl, inr, arith, get_or-set_other, get_or-set_same}
+use Rattle.std.proofs.Common.{◌≡◌, ℕ, zero, suc, ◌+◌, ◌<◌, ◌≤◌, Bool, true, false, ◌||◌, eqb, List, [], ◌∷◌, map, length, get_or, set, replicate, sym, refl, ap, ◌∙◌, inl, inr, arith, get_or-set_other, get_or-set_same}
 use mathlib.Core.Option.{some}
 use mathlib.Core.List.Memᴰ.{head as here}
 use mathlib.Core.List.Memᴰ.{tail as there}
 use Rattle.std.proofs.lemmas.Bool.{cases_Bool, eqb-false, eqb-true, ne_eqb}
 use Rattle.cnf.specs.Clauses.{◌∈◌}
-use Rattle.drup.specs.Marks.{Marks, lemma_numbers, marked}
+use Rattle.drup.specs.Marks.{Marks, has, lemma_numbers, marked}
 use Rattle.drup.specs.Forward.{Machine}
 use Rattle.drup.specs.Backward.{Report, Row, Verdict, accepted, fails}
 use Rattle.drup.specs.Box.{Checks, Happens, Lent, check_refused, checked, empty_kept}
@@ -104,3 +104,11 @@ module _ (m : Machine) (judged : Bool) (marks marks' : List Bool) (arcs arcs' : 
       (step answers : ℕ) → Checks m (fails step answers)
       → Happens (box_of m judged marks arcs) (checked lent (fails step answers)) (box_of m false marks' arcs')
   fails_read step answers b = (r, b, refl)
+
+-- a row is marked number by number
+pub marked_first : (n : ℕ) (row : List ℕ) (kept : Marks) → marked (n ∷ []) (marked row kept) ≡ marked (n ∷ row) kept
+marked_first n row kept = λ i k. regroup (eqb k n) (has row k) (kept k) i
+  where
+    regroup : (a b c : Bool) → ((a || false) || (b || c)) ≡ ((a || b) || c)
+    regroup true b c = refl
+    regroup false b c = refl

@@ -22,22 +22,22 @@ assumed_stays assumed [] l m = m
 assumed_stays assumed (f ∷ earlier) l m = there (assumed_stays assumed earlier l m)
 
 -- what holds of the number of every right answer and of a row holds of the row that is gathered
-gathered_alive : (text : ℕ → Clause) (alive : ℕ → Type 0) (assumed : List Literal) (answers : List Forced) (row : List ℕ)
-    → RightOver alive text assumed answers → ((n : ℕ) → n ∈ row → alive n) → (n : ℕ) → n ∈ gathered text answers row → alive n
-gathered_alive text alive assumed [] row right live = live
-gathered_alive text alive assumed (f ∷ earlier) row right live =
-    gathered_alive text alive assumed earlier _ right.2
-    (cond_both (stands_in (complement f.literal) (map text row)) (f.number ∷ row) row (λ (r : List ℕ). (n : ℕ) → n ∈ r → alive n)
+pub gathered_alive : (text text' : ℕ → Clause) (alive : ℕ → Type 0) (assumed : List Literal) (answers : List Forced) (row : List ℕ)
+    → RightOver alive text assumed answers → ((n : ℕ) → n ∈ row → alive n) → (n : ℕ) → n ∈ gathered text' answers row → alive n
+gathered_alive text text' alive assumed [] row right live = live
+gathered_alive text text' alive assumed (f ∷ earlier) row right live =
+    gathered_alive text text' alive assumed earlier _ right.2
+    (cond_both (stands_in (complement f.literal) (map text' row)) (f.number ∷ row) row (λ (r : List ℕ). (n : ℕ) → n ∈ r → alive n)
     (λ e. all_cons alive right.0 live) (λ e. live))
 
 -- so the row of a conflict holds only numbers that are alive
-pub row_alive : (text : ℕ → Clause) (alive : ℕ → Type 0) (assumed : List Literal) (answers : List Forced) (conflict : ℕ)
-    → ConflictOver alive text assumed answers conflict → (n : ℕ) → n ∈ gathered text answers (conflict ∷ []) → alive n
-row_alive text alive assumed answers conflict found =
-    gathered_alive text alive assumed answers (conflict ∷ []) found.right (all_cons alive found.live (λ n m. absurd (Memᴰ.not-nil m)))
+pub row_alive : (text text' : ℕ → Clause) (alive : ℕ → Type 0) (assumed : List Literal) (answers : List Forced) (conflict : ℕ)
+    → ConflictOver alive text assumed answers conflict → (n : ℕ) → n ∈ gathered text' answers (conflict ∷ []) → alive n
+row_alive text text' alive assumed answers conflict found =
+    gathered_alive text text' alive assumed answers (conflict ∷ []) found.right (all_cons alive found.live (λ n m. absurd (Memᴰ.not-nil m)))
 
 -- a row has at most as many numbers as there were answers, the conflict among them
-gathered_few : (text : ℕ → Clause) (answers : List Forced) (row : List ℕ) → length (gathered text answers row) ≤ length answers + length row
+pub gathered_few : (text : ℕ → Clause) (answers : List Forced) (row : List ℕ) → length (gathered text answers row) ≤ length answers + length row
 gathered_few text [] row = omega arith
 gathered_few text (f ∷ earlier) row =
     let more = gathered_few text earlier (f.number ∷ row) in

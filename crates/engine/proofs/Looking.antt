@@ -1,9 +1,9 @@
 -- What the looks at a text find.
-use Rattle.std.proofs.Common.{◌≡◌, Bool, true, false, cond, not, ◌||◌, List, [], ◌∷◌, Some, None, Option, sym, refl, ap, ◌∙◌, inl, inr}
+use Rattle.std.proofs.Common.{◌≡◌, Bool, true, false, cond, not, ◌||◌, eqb, List, [], ◌∷◌, Some, None, Option, sym, refl, ap, ◌∙◌, inl, inr}
 use mathlib.Core.List.Memᴰ
 use mathlib.Core.List.Memᴰ.{head as here}
 use mathlib.Core.List.Memᴰ.{tail as there}
-use Rattle.std.proofs.lemmas.Bool.{and_from, or_cases, or_left, or_right, both_ways}
+use Rattle.std.proofs.lemmas.Bool.{and_from, or_cases, or_left, or_right, both_ways, eq-eqb}
 use Rattle.cnf.specs.declared.literals.Literal.{Literal}
 use Rattle.cnf.specs.Literals.{complement, same_literal}
 use Rattle.cnf.specs.Clauses.{Clause, ◌∈◌}
@@ -11,7 +11,7 @@ use Rattle.cnf.specs.Arranging.{names}
 use Rattle.cnf.specs.Propagation.{Falsified, Forces}
 use Rattle.cnf.proofs.Arranging.{all_cons, names_false}
 use Rattle.cnf.proofs.Complements.{same_literal_true, same_literal_self, same_or_not, found_true, found_has}
-use Rattle.cnf.proofs.Passing.{each_passes}
+use Rattle.cnf.proofs.Passing.{each_passes, any_passes}
 use Rattle.std.specs.List.{list_all}
 use Rattle.cnf.proofs.Derivations.{forced_new}
 use Rattle.engine.specs.Looks.{is_false, all_false_but, falsified, first_open, if_others_false, forced}
@@ -21,6 +21,10 @@ all_pass : (test : Literal → Bool) (c : Clause) → ((k : Literal) → k ∈ c
 all_pass test [] f = refl
 all_pass test (l ∷ c) f = and_from (test l) (list_all test c) (f l (here refl)) (all_pass test c (λ k m. f k (there m)))
 
+-- a named variable has a value
+pub names_there : (l : Literal) (ls : List Literal) → l ∈ ls → names l.variable ls ≡ true
+names_there l ls m = any_passes (λ (k : Literal). eqb l.variable k.variable) m (eq-eqb l.variable l.variable refl)
+
 module _ (trail : List Literal) where
   -- the test finds just what is falsified
   pub falsified_true : (c : Clause) → falsified trail c ≡ true → Falsified trail c
@@ -28,6 +32,9 @@ module _ (trail : List Literal) where
 
   pub falsified_there : (c : Clause) → Falsified trail c → falsified trail c ≡ true
   falsified_there c f = all_pass (is_false trail) c (λ k m. found_has (f k m))
+
+  pub falsified_false : (c : Clause) → falsified trail c ≡ false → Falsified trail c → ⊥
+  falsified_false c e f = both_ways (falsified trail c) e (falsified_there c f)
 
   others_true : (l : Literal) (c : Clause) → all_false_but trail (Some l) c ≡ true → (k : Literal) → k ∈ c → (k ≡ l → ⊥) → complement k ∈ trail
   others_true l c e k m d =

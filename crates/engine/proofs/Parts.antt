@@ -1,5 +1,5 @@
 -- What the parts that engines share say of what an engine stands for.
-use Rattle.std.proofs.Common.{◌≡◌, true, false, List, [], ◌∷◌, Some, None, Option, refl, true≢false}
+use Rattle.std.proofs.Common.{◌≡◌, true, List, [], ◌∷◌}
 use mathlib.Core.List.Memᴰ
 use Rattle.std.proofs.lemmas.Bool.{and_parts}
 use Rattle.std.specs.List.{list_all}
@@ -10,15 +10,9 @@ use Rattle.cnf.proofs.Rising.{ascending_clause}
 use Rattle.cnf.proofs.Derivations.{forced_new}
 use Rattle.engine.specs.declared.answers.Answer.{Answer}
 use Rattle.engine.specs.declared.answers.Answer.TheVariants.{Conflict, Forced as ForcedBy, Nothing}
-use Rattle.engine.specs.declared.trails.Trail.{Trail}
 use Rattle.engine.specs.Meaning.{Meaning, highest, text_of, values, Says, WellFormed}
-use Rattle.engine.specs.Trails.{AnswerJoins, is_there, standing}
+use Rattle.engine.specs.Trails.{AnswerJoins}
 use Rattle.engine.proofs.Keeping.{forced_inside}
-
--- nothing stands on a trail that is not there
-pub no_trail : (t : Option Trail) → is_there t ≡ false → standing t ≡ []
-no_trail None e = refl
-no_trail (Some t) e = absurd (true≢false e)
 
 -- a literal that is forced can join the trail
 pub answer_joins : (m : Meaning) → WellFormed m → (a : Answer) → Says m a → AnswerJoins a (values m)

@@ -9,10 +9,10 @@ use Rattle.cnf.specs.Clauses.{Clause, literals}
 use Rattle.cnf.specs.Arranging.{outside, names, beyond, in_range_until, twice, new_until, arranged, arrangement}
 use Rattle.cnf.proofs.Arranging.{arranged_length}
 use Rattle.engine.specs.declared.faults.EngineFault.{EngineFault}
-use Rattle.engine.specs.declared.faults.EngineFault.TheVariants.{Clause as Faulty, Full, NoSuchText, AlreadyOn, NotOn, TrialOpen}
-use Rattle.engine.specs.Meaning.{Meaning, highest, values, is_on, no_text, no_room, shut, no_put, no_on, no_off, no_assume}
+use Rattle.engine.specs.declared.faults.EngineFault.TheVariants.{Clause as Faulty, Full, NoSuchText, AlreadyOn, NotOn, HasValue, TrialOpen, NoTrial}
+use Rattle.engine.specs.Meaning.{Meaning, highest, values, is_on, no_text, no_room, shut, no_trial, no_put, no_on, no_off, no_assume}
 use Rattle.engine.specs.Limits.{judged, unless, placed}
-use Rattle.engine.proofs.Keeping.{closed_trial}
+use Rattle.engine.proofs.Keeping.{closed_trial, open_trial}
 
 -- a meaning from its parts
 pub alike : {m n : Meaning} → m.texts ≡ n.texts → m.on ≡ n.on → m.trail ≡ n.trail → m.opened ≡ n.opened
@@ -30,7 +30,7 @@ arranges ls c = go (beyond highest ls) (twice ls)
     go false false e = let same : arranged ls ≡ c = cc in (refl, refl, same)
 
 -- the rules for literals that make none
-faulty_rules : (ls : List Literal) (f : ClauseFault) (rest : Option EngineFault) → arrangement highest ls ≡ Err f
+pub faulty_rules : (ls : List Literal) (f : ClauseFault) (rest : Option EngineFault) → arrangement highest ls ≡ Err f
     → cond (beyond highest ls) (Some (Faulty (OutOfRange (in_range_until highest ls)))) (cond (twice ls) (Some (Faulty (Repeated (new_until [] ls)))) rest) ≡ Some (Faulty f)
 faulty_rules ls f rest = go (beyond highest ls) (twice ls)
   where
@@ -41,7 +41,22 @@ faulty_rules ls f rest = go (beyond highest ls) (twice ls)
     go false false e = cc
 
 module _ (m : Meaning) where
+  pub shut_refused : m.opened ≡ true → shut m ≡ Some TrialOpen
+  shut_refused o = cond-true m.opened _ _ o
+
+  pub shut_done : m.opened ≡ false → shut m ≡ None
+  shut_done o = cond-false m.opened _ _ o
+
+  pub trial_refused : m.opened ≡ false → no_trial m ≡ Some NoTrial
+  trial_refused o = cond-true (not m.opened) _ _ (not_from_false m.opened o)
+
+  pub trial_done : m.opened ≡ true → no_trial m ≡ None
+  trial_done o = cond-false (not m.opened) _ _ (not_from_true m.opened o)
+
   module _ (ls : List Literal) where
+    pub put_open : m.opened ≡ true → no_put m ls ≡ Some TrialOpen
+    put_open o = cond-true m.opened _ _ o
+
     pub put_faulty : (f : ClauseFault) → m.opened ≡ false → arrangement highest ls ≡ Err f → no_put m ls ≡ Some (Faulty f)
     put_faulty f o e = cond-false m.opened _ _ o ∙ faulty_rules ls f _ e
 
@@ -61,11 +76,23 @@ module _ (m : Meaning) where
       put_done r = only_room ∙ cond-false (no_room m (length c)) _ _ r
 
   module _ (n : ℕ) where
+    pub on_open : m.opened ≡ true → no_on m n ≡ Some TrialOpen
+    on_open o = cond-true m.opened _ _ o
+
+    pub on_none : m.opened ≡ false → no_text m n ≡ true → no_on m n ≡ Some NoSuchText
+    on_none o t = cond-false m.opened _ _ o ∙ cond-true (no_text m n) _ _ t
+
     pub on_already : m.opened ≡ false → no_text m n ≡ false → is_on m n ≡ true → no_on m n ≡ Some AlreadyOn
     on_already o t b = cond-false m.opened _ _ o ∙ cond-false (no_text m n) _ _ t ∙ cond-true (is_on m n) _ _ b
 
     pub on_done : m.opened ≡ false → no_text m n ≡ false → is_on m n ≡ false → no_on m n ≡ None
     on_done o t b = cond-false m.opened _ _ o ∙ cond-false (no_text m n) _ _ t ∙ cond-false (is_on m n) _ _ b
+
+    pub off_open : m.opened ≡ true → no_off m n ≡ Some TrialOpen
+    off_open o = cond-true m.opened _ _ o
+
+    pub off_none : m.opened ≡ false → no_text m n ≡ true → no_off m n ≡ Some NoSuchText
+    off_none o t = cond-false m.opened _ _ o ∙ cond-true (no_text m n) _ _ t
 
     pub off_not : m.opened ≡ false → no_text m n ≡ false → is_on m n ≡ false → no_off m n ≡ Some NotOn
     off_not o t b = cond-false m.opened _ _ o ∙ cond-false (no_text m n) _ _ t ∙ cond-true (not (is_on m n)) _ _ (not_from_false (is_on m n) b)
@@ -74,6 +101,16 @@ module _ (m : Meaning) where
     off_done o t b = cond-false m.opened _ _ o ∙ cond-false (no_text m n) _ _ t ∙ cond-false (not (is_on m n)) _ _ (not_from_true (is_on m n) b)
 
   module _ (l : Literal) where
+    pub assume_shut : m.opened ≡ false → no_assume m l ≡ Some NoTrial
+    assume_shut o = cond-true (not m.opened) _ _ (not_from_false m.opened o)
+
+    pub assume_outside : m.opened ≡ true → outside highest l ≡ true → no_assume m l ≡ Some (Faulty (OutOfRange 0))
+    assume_outside o r = cond-false (not m.opened) _ _ (not_from_true m.opened o) ∙ cond-true (outside highest l) _ _ r
+
+    pub assume_valued : m.opened ≡ true → outside highest l ≡ false → names l.variable (values m) ≡ true → no_assume m l ≡ Some HasValue
+    assume_valued o r v =
+        cond-false (not m.opened) _ _ (not_from_true m.opened o) ∙ cond-false (outside highest l) _ _ r ∙ cond-true (names l.variable (values m)) _ _ v
+
     pub assume_done : m.opened ≡ true → outside highest l ≡ false → names l.variable (values m) ≡ false → no_assume m l ≡ None
     assume_done o r v =
         cond-false (not m.opened) _ _ (not_from_true m.opened o) ∙ cond-false (outside highest l) _ _ r ∙ cond-false (names l.variable (values m)) _ _ v
@@ -94,17 +131,25 @@ judged_fault refusal = unless_fault refusal tt
 pub judged_none : (refusal : Option EngineFault) → Ok tt ≡ judged refusal → refusal ≡ None
 judged_none refusal = unless_none refusal tt tt
 
--- a call that an open trial shuts out is refused for that, whatever rules follow; one that is let in finds no trial open
+-- what the first rule refuses is refused for that, whatever rules follow
+first_refuses : (b : Bool) (trouble fault : EngineFault) (rest : Option EngineFault) → Err fault ≡ judged (cond b (Some trouble) None)
+    → cond b (Some trouble) rest ≡ Some fault
+first_refuses true trouble fault rest p = search (p, rules)
+first_refuses false trouble fault rest p = search (p, rules)
+
+-- so is a call that an open trial shuts out, and one that needs a trial; one that is let in finds no trial open, or one
 module _ (m : Meaning) where
   pub shut_refuses : (fault : EngineFault) (rest : Option EngineFault) → Err fault ≡ judged (shut m) → cond m.opened (Some TrialOpen) rest ≡ Some fault
-  shut_refuses fault rest p = go m.opened p
-    where
-      go : (b : Bool) → Err fault ≡ judged (cond b (Some TrialOpen) None) → cond b (Some TrialOpen) rest ≡ Some fault
-      go true q = search (q, rules)
-      go false q = search (q, rules)
+  shut_refuses = first_refuses m.opened TrialOpen
 
   pub shut_passes : Ok tt ≡ judged (shut m) → m.opened ≡ false
   shut_passes p = closed_trial m (judged_none _ p)
+
+  pub trial_refuses : (fault : EngineFault) (rest : Option EngineFault) → Err fault ≡ judged (no_trial m) → cond (not m.opened) (Some NoTrial) rest ≡ Some fault
+  trial_refuses = first_refuses (not m.opened) NoTrial
+
+  pub trial_passes : Ok tt ≡ judged (no_trial m) → m.opened ≡ true
+  trial_passes p = open_trial m (judged_none _ p)
 
 -- the search for a place among as many texts is refused by the rule for numbers
 pub placed_is : (m : Meaning) (texts n : ℕ) → texts ≡ length m.texts → placed texts n ≡ unless (cond (no_text m n) (Some NoSuchText) None) (n - 1)

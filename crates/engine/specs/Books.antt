@@ -4,11 +4,11 @@ use Rattle.cnf.specs.Clauses.{Clause}
 use Rattle.engine.specs.declared.books.Books.{Books}
 use Rattle.engine.specs.declared.faults.EngineFault.{EngineFault}
 use Rattle.engine.specs.Meaning.{Meaning, shut, cleared}
-use Rattle.engine.specs.Trails.{is_there, standing}
+use Rattle.engine.specs.Trails.{entries_of}
 
 -- an engine that keeps these books, with these texts and marks
 abbrev pub in_books : Books → List Clause → List Bool → Meaning
-in_books b texts marks = record { texts = texts; on = marks; trail = standing b.session.trail; opened = is_there b.session.trail; answers = b.session.answers; text_limit = b.room.limits.texts; literal_limit = b.room.limits.literals }
+in_books b texts marks = record { texts = texts; on = marks; trail = entries_of b.session.trail; opened = b.session.opened; answers = b.session.answers; text_limit = b.room.limits.texts; literal_limit = b.room.limits.literals }
 
 -- books in which nothing is held
 abbrev pub NothingHeld : Books → Type 0

@@ -2,7 +2,6 @@
 ghost use Rattle.std.specs.Prelude.{◌≡◌, ◌-◌, Bool, false, List, length};
 ghost use Rattle.cnf.specs.Clauses.{Clause};
 ghost use Rattle.engine.specs.Limits.{no_place, unless};
-ghost use Rattle.engine.specs.Trails.{is_there};
 
 use crate::faults::EngineFault;
 use crate::limits::{Limits, Room};
@@ -23,7 +22,7 @@ impl Books {
     pub fn new(limits: Limits) -> Books
         ensures limits { result.room.limits ≡ limits }
         ensures empty { NothingHeld result }
-        ensures session { (is_there result.session.trail ≡ false) × (result.session.answers ≡ 0) }
+        ensures session { (result.session.opened ≡ false) × (result.session.answers ≡ 0) }
     {
         Books {
             room: Room::new(limits),

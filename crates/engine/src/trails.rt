@@ -1,14 +1,16 @@
 //! The trail of a trial.
 ghost use Rattle.std.specs.Prelude.{◌≡◌, ◌<◌, ◌≤◌, [], ◌∷◌, ◌++◌, length};
 
-use arrayvec::ArrayVec;
 use cnf::drafts::MOST_LITERALS;
 use cnf::literals::Forced;
 
 /// Literals with the number of the text that forced each, or 0 if it was assumed: room for as many as there are variables.
-#[derive(Clone, Drop)]
+#[derive(Clone, Copy)]
 pub struct Trail {
-    entries: ArrayVec<Forced, MOST_LITERALS>,
+    // An array with its length beside it: a list of the library's is not `Copy`, and emptying it writes to each place.
+    entries: [Forced; MOST_LITERALS],
+    len: usize,
+    ghost few: { len ≤ 512 },
 }
 
 impl Trail {
@@ -19,7 +21,8 @@ impl Trail {
         ensures { entries_of result ≡ [] }
     {
         Trail {
-            entries: ArrayVec::new(),
+            entries: [Forced::default(); MOST_LITERALS],
+            len: 0,
         }
     }
 
@@ -27,7 +30,7 @@ impl Trail {
     pub fn clear(&mut self)
         ensures { entries_of self.new ≡ [] }
     {
-        self.entries.clear();
+        self.len = 0;
     }
 
     /// What stands on the trail, oldest first.
@@ -35,7 +38,7 @@ impl Trail {
         ensures all { result.now ≡ entries_of self.now }
         ensures few { length result.now ≤ 512 }
     {
-        &self.entries
+        &self.entries[..self.len]
     }
 
     /// One more literal at the end.
@@ -43,6 +46,7 @@ impl Trail {
         requires { length (entries_of self.old) < 512 }
         ensures { entries_of self.new ≡ entries_of self.old ++ last ∷ [] }
     {
-        self.entries.push(last);
+        self.entries[self.len] = last;
+        self.len += 1;
     }
 }

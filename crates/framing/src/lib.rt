@@ -21,8 +21,11 @@ pub struct Counted<'a> {
 fn count_of(line: &[u8]) -> Option<usize>
     ensures { MatchOption result (NoCount line.now) (λ n. (n ≤ 32768) × (line.now ≡ decimal n)) }
 {
+    if !is_unsigned(line) {
+        return None;
+    }
     let count = value16(line);
-    (is_unsigned(line) && count <= MOST_BYTES).then_some(usize::from(count))
+    (count <= MOST_BYTES).then_some(usize::from(count))
 }
 
 /// The counted text with which the input begins, if it begins with one: a line with the number of the text's bytes, at

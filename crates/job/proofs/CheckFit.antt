@@ -27,6 +27,7 @@ pub record Fit (s : View) : Type 0 where
   pub stored : literals (table (inputs_of s) (steps_of s)) ≡ s.used
   pub all_texts : length (texts s) ≡ s.clauses
   pub clause : (k : ℕ) → 1 ≤ k → k ≤ s.clauses → IsClause s.variables (text_in (texts s) k)
+  pub few_inputs : s.inputs ≤ s.clauses
   pub named : (k : ℕ) → k < s.taken → NamedIn (inputs_of s) (before s k) (get_or s.steps k blank_step)
   pub alive : (k : ℕ) → k < s.clauses → is_none (get_or s.rows k blank_row).struck ≡ not (is_struck (suc k) (steps_of s))
   pub strikes : StrikesLive (inputs_of s) (steps_of s)
@@ -47,6 +48,7 @@ fit s o = record {
   stored = all_literals s o;
   all_texts = length_texts s.rows s.lits s.clauses (let a = o.rooms.0 in let b = o.counts.1 in omega arith);
   clause = its_clause;
+  few_inputs = o.counts.0;
   named = λ k h. its_name k (get_or s.steps k blank_step) refl (o.numbered k h);
   alive = row_live s o;
   strikes = all_strikes s o;

@@ -1,17 +1,18 @@
 -- The trial of a kept lemma: what its parts ask for.
-use Rattle.std.proofs.Common.{◌≡◌, ℕ, suc, ◌+◌, ◌-◌, ◌*◌, ◌≤◌, List, [], ◌∷◌, length, sym, ap, ◌∙◌, subst, add-one, arith}
+use Rattle.std.proofs.Common.{◌≡◌, ℕ, suc, ◌+◌, ◌-◌, ◌*◌, ◌≤◌, List, [], ◌∷◌, length, sym, ap, ◌∙◌, subst, add-one, arith, ◌<◌, get_or}
+use mathlib.Core.List.Memᴰ
 use lib.Seq.{paste}
 use Rattle.cnf.specs.declared.literals.Literal.{Literal}
 use Rattle.cnf.specs.Clauses.{Clause, ◌∈◌, Within}
 use Rattle.cnf.specs.Arranging.{beyond, twice}
-use Rattle.cnf.proofs.Arranging.{clause_beyond, clause_twice}
+use Rattle.cnf.proofs.Arranging.{clause_beyond, clause_twice, all_cons}
 use Rattle.cnf.specs.declared.literals.Forced.{Forced}
 use Rattle.drup.specs.Backward.{RightOver, gathered}
 use Rattle.drup.proofs.Short.{asked_few}
 use Rattle.drup.proofs.Trials.{row_few}
 use Rattle.engine.specs.Meaning.{Meaning, On, text_of, Consistent, WellFormed, counted_by}
 use Rattle.engine.specs.Meaning.{text_in as text_from}
-use Rattle.trial.specs.Gathering.{AllKnown}
+use Rattle.trial.specs.Gathering.{AllKnown, AllWithin}
 use Rattle.trial.proofs.Conflicts.{answers_known}
 use Rattle.job.specs.View.{View, text_in, texts, with_rows, with_arcs}
 use Rattle.job.specs.CheckLists.{mark_all, row_start, recorded}
@@ -24,12 +25,20 @@ place_same n i v =
     ap (λ (x : ℕ). x * (v + 1)) (let e : (n - 1) - i ≡ n - suc i = omega arith in e)
     ∙ ap (λ (x : ℕ). (n - suc i) * x) (add-one v)
 
+each_in : (P : Clause → Type 0) (ts : List Clause) → ((k : ℕ) → k < length ts → P (get_or ts k [])) → (c : Clause) → c ∈ ts → P c
+each_in P [] h = λ c x. absurd (Memᴰ.not-nil x)
+each_in P (t ∷ ts) h = all_cons P (h 0 (omega arith)) (each_in P ts (λ k b. h (suc k) (omega arith)))
+
 module _ (s : View) (o : Fit s) where
   -- a lemma can be assumed
   pub lemma_consistent : (n : ℕ) → 1 ≤ n → n ≤ s.clauses → (c : Clause) → c ≡ text_in (texts s) n → Consistent c
   lemma_consistent n low high c e =
       let is = wider s.variables 512 (text_in (texts s) n) o.range (o.clause n low high) in
       (ap (beyond 512) e ∙ clause_beyond 512 (text_in (texts s) n) is, ap twice e ∙ clause_twice 512 (text_in (texts s) n) is)
+
+  -- the literals of each clause are an engine's
+  pub all_within : AllWithin (texts s)
+  all_within = each_in (Within 512) (texts s) (λ k h. let l = o.all_texts in (wider s.variables 512 (get_or (texts s) k []) o.range (o.clause (suc k) (omega arith) (omega arith))).within)
 
 module _ (m : Meaning) (s : View) (h : Holds m s) (o : Fit s) where
   pub same_texts : text_of m ≡ text_in (texts s)

@@ -1,21 +1,22 @@
 -- Writing marks into the rows of a job.
-use Rattle.std.proofs.Common.{◌≡◌, ℕ, zero, suc, ◌+◌, ◌≤◌, Bool, true, false, cond, List, ◌∷◌, ◌++◌, map, length, get_or, take, drop, set, sym, refl, ap, ◌∙◌, add-one, append-nil, arith, length-set}
-use Rattle.std.proofs.lemmas.List.{take_all, drop_all}
+use Rattle.std.proofs.Common.{◌≡◌, ℕ, zero, suc, ◌+◌, ◌≤◌, Bool, true, false, cond, List, ◌∷◌, ◌++◌, map, length, get_or, take, drop, set, sym, refl, ap, ◌∙◌, add-one, append-nil, arith, length-set, ◌<◌, ◌-◌}
+use Rattle.std.proofs.lemmas.List.{take_all, drop_all, drop_more}
 use Rattle.std.proofs.Math.ListN.{get_or-map}
 use Rattle.std.proofs.Math.Seq.{map-set_same}
 use Rattle.std.proofs.lemmas.List.Sums.{count_by_more_yes, count_by_more_no}
 use Rattle.std.specs.List.{count_by}
-use Rattle.drup.specs.Marks.{sieved}
+use Rattle.drup.specs.Marks.{sieved, Marks}
 use Rattle.drup.specs.Reading.{marks_of}
 use Rattle.job.specs.declared.rows.ClauseRow.{ClauseRow}
 use Rattle.job.specs.View.{View, blank_row, text_in, texts, marks, with_rows, bare}
 use Rattle.job.specs.History.{down_from}
 use Rattle.job.specs.Sound.{Sound}
-use Rattle.job.specs.CheckLists.{unmarked}
+use Rattle.job.specs.CheckLists.{unmarked, kept_row, mark_all}
 use Rattle.job.proofs.Histories.{length_down}
 use Rattle.job.proofs.Keeping.{sound_rows}
 use Rattle.job.proofs.CheckFraming.{bare_unmarked, unmarked_length}
 use Rattle.job.proofs.CheckMarking.{mark_there}
+use Rattle.cnf.specs.Clauses.{Clause}
 
 -- rows that are the same but for their marks
 bare_there : (rows rows' : List ClauseRow) → map bare rows' ≡ map bare rows → (k : ℕ) → bare (get_or rows' k blank_row) ≡ bare (get_or rows k blank_row)
@@ -27,6 +28,18 @@ pub sound_marked : (s : View) (i : ℕ) (row : ClauseRow) → bare row ≡ bare 
 sound_marked s i row e o =
     sound_rows s (set s.rows i row) (length-set s.rows i row)
     (λ k h. bare_there s.rows (set s.rows i row) (map-set_same bare s.rows i row blank_row e) k) o
+
+-- one number more is marked
+pub mark_one : (s start : View) (row : List ℕ) (j : ℕ) → j < length row
+    → with_rows (mark_all (drop j row) s.rows) s ≡ with_rows (mark_all row start.rows) start
+    → with_rows (mark_all (drop (j + 1) row) (set s.rows (get_or row j 0 - 1) (kept_row (get_or s.rows (get_or row j 0 - 1) blank_row)))) s
+    ≡ with_rows (mark_all row start.rows) start
+mark_one s start row j h inv = ap (λ (t : List ℕ). with_rows (mark_all t s.rows) s) (sym (drop_more row j 0 h)) ∙ inv
+
+pub marked_all : (s start : View) (row : List ℕ) (j : ℕ) → length row ≤ j
+    → with_rows (mark_all (drop j row) s.rows) s ≡ with_rows (mark_all row start.rows) start
+    → s ≡ with_rows (mark_all row start.rows) start
+marked_all s start row j h inv = ap (λ (t : List ℕ). with_rows (mark_all t s.rows) s) (sym (drop_all j row h)) ∙ inv
 
 -- unmarking one after the other, and the rest behind
 pub unmarked_all : (rows : List ClauseRow) (c i : ℕ) (items : List ClauseRow) → c ≤ length rows → length (take c rows) ≤ i → items ≡ unmarked i (take c rows)
@@ -44,6 +57,29 @@ sound_unmarked s o =
     (λ k h. bare_there s.rows (unmarked s.clauses s.rows) (bare_unmarked s.clauses s.rows) k) o
 
 -- how many of the first clauses are marked
+pub sieved_most : (kept : Marks) (text : ℕ → Clause) (k : ℕ) → length (sieved kept (down_from text k)) ≤ k
+sieved_most kept text zero = omega arith
+sieved_most kept text (suc k) = go (kept (suc (length (down_from text k)))) (sieved_most kept text k)
+  where
+    go : (b : Bool) → length (sieved kept (down_from text k)) ≤ k
+        → length (cond b (text (suc k) ∷ sieved kept (down_from text k)) (sieved kept (down_from text k))) ≤ suc k
+    go true h = omega arith
+    go false h = omega arith
+
+pub sieved_more : (kept : Marks) (text : ℕ → Clause) (k : ℕ) (b : Bool) → kept (suc k) ≡ b
+    → length (sieved kept (down_from text (k + 1))) ≡ cond b (length (sieved kept (down_from text k)) + 1) (length (sieved kept (down_from text k)))
+sieved_more kept text k b e =
+    let a : k + 1 ≡ suc k = omega arith in
+    ap (λ (n : ℕ). length (sieved kept (down_from text n))) a
+    ∙ ap (λ (x : Bool). length (cond x (text (suc k) ∷ sieved kept (down_from text k)) (sieved kept (down_from text k))))
+    (ap (λ (n : ℕ). kept (suc n)) (length_down text k) ∙ e)
+    ∙ go b
+  where
+    go : (b : Bool) → length (cond b (text (suc k) ∷ sieved kept (down_from text k)) (sieved kept (down_from text k)))
+        ≡ cond b (length (sieved kept (down_from text k)) + 1) (length (sieved kept (down_from text k)))
+    go true = omega arith
+    go false = refl
+
 pub kept_counted : (s : View) (k : ℕ) → k ≤ s.clauses → s.clauses ≤ length s.rows
     → count_by (λ (r : ClauseRow). r.kept) (take k s.rows) ≡ length (sieved (marks_of (marks s)) (down_from (text_in (texts s)) k))
 kept_counted s zero h room = refl

@@ -160,7 +160,7 @@ module _ (s₀ : View) (o : Fit s₀) (rooms : Roomy s₀) (i : ℕ) (h : i < s�
         conflict = subst (λ (ls : List Literal). ConflictOver (On off) (text_of off) ls answers p.at) same_lemma p.conflict
 
         all_on : (k : ℕ) → k ∈ row → On off k
-        all_on = row_alive (text_of off) (On off) (map complement (text_in (texts s₀) n)) answers p.at conflict
+        all_on = row_alive (text_of off) (text_of off) (On off) (map complement (text_in (texts s₀) n)) answers p.at conflict
 
         in_range : (k : ℕ) → k ∈ row → (1 ≤ k) × (k ≤ s₀.clauses)
         in_range k x = holds.numbered k (all_on k x)

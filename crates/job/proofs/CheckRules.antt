@@ -1,9 +1,9 @@
 -- The rules of a check.
-use Rattle.std.proofs.Common.{◌≡◌, ℕ, suc, ◌+◌, ◌-◌, ◌*◌, true, false, ◌||◌, ltb, List, [], ◌∷◌, length, sym, refl, ap, ◌∙◌, add-one, arith}
+use Rattle.std.proofs.Common.{◌≡◌, ℕ, suc, ◌+◌, ◌-◌, ◌*◌, true, false, ◌||◌, ltb, List, [], ◌∷◌, length, sym, refl, ap, ◌∙◌, add-one, arith, ◌<◌, ◌≤◌}
 use Rattle.cnf.specs.Clauses.{Clause, literals}
 use Rattle.drup.specs.History.{Step, learned, struck, table, lemmas, ended}
 use Rattle.drup.specs.Box.{too_small, check_refused}
-use Rattle.std.proofs.lemmas.Bool.{or_parts, ltb-false}
+use Rattle.std.proofs.lemmas.Bool.{or_parts, ltb-false, lt-ltb, le-ltb}
 use Rattle.engine.specs.Meaning.{Meaning}
 use Rattle.job.specs.View.{View, text_in, texts}
 use Rattle.job.specs.History.{inputs_of, steps_of, machine_of}
@@ -34,6 +34,16 @@ module _ (s : View) (o : Fit s) where
       ∙ ap (λ (n : ℕ). (ltb m.text_limit s.clauses || ltb m.literal_limit n) || ltb (length s.arcs) (lemmas (steps_of s) * suc s.variables)) o.stored
       ∙ ap (λ (n : ℕ). (ltb m.text_limit s.clauses || ltb m.literal_limit s.used) || ltb (length s.arcs) (n * suc s.variables)) same_lemmas
       ∙ ap (λ (n : ℕ). (ltb m.text_limit s.clauses || ltb m.literal_limit s.used) || ltb (length s.arcs) ((s.clauses - s.inputs) * n)) (sym (add-one s.variables))
+
+  module _ (m : Meaning) (a b : ℕ) (p : a ≡ m.text_limit) (q : b ≡ m.literal_limit) where
+    pub short_first : a < s.clauses → true ≡ too_small (machine_of s) (lent_by s m)
+    short_first h = sym (short_is m ∙ rw (lt-ltb m.text_limit s.clauses (omega arith)) refl)
+
+    pub short_second : s.clauses ≤ a → b < s.used → true ≡ too_small (machine_of s) (lent_by s m)
+    short_second g h = sym (short_is m ∙ rw (le-ltb m.text_limit s.clauses (omega arith), lt-ltb m.literal_limit s.used (omega arith)) refl)
+
+    pub short_third : s.clauses ≤ a → s.used ≤ b → ltb (length s.arcs) ((s.clauses - s.inputs) * (s.variables + 1)) ≡ too_small (machine_of s) (lent_by s m)
+    short_third g h = sym (short_is m ∙ rw (le-ltb m.text_limit s.clauses (omega arith), le-ltb m.literal_limit s.used (omega arith)) refl)
 
   -- what a check that breaks no rule can rest on
   pub allowed : (m : Meaning) → ended (steps_of s) ≡ true → too_small (machine_of s) (lent_by s m) ≡ false → m.opened ≡ false → Allowed s m

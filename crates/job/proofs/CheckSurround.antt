@@ -1,5 +1,5 @@
 -- Filling the engine, turning on what is live, and turning all off.
-use Rattle.std.proofs.Common.{◌≡◌, ℕ, zero, suc, ◌+◌, ◌-◌, ◌<◌, ◌≤◌, Bool, true, false, not, ltb, List, [], ◌∷◌, ◌++◌, length, get_or, take, set, replicate, Some, None, Ok, Err, Result, sym, refl, ap, ◌∙◌, subst, inl, inr, add-one, arith, length-set, get_or-set_other, get_or-set_same, is_none}
+use Rattle.std.proofs.Common.{◌≡◌, ℕ, zero, suc, ◌+◌, ◌-◌, ◌<◌, ◌≤◌, Bool, true, false, not, ltb, List, [], ◌∷◌, ◌++◌, length, get_or, take, set, replicate, Some, None, Ok, Err, Result, sym, refl, ap, ◌∙◌, subst, inl, inr, add-one, arith, length-set, get_or-set_other, get_or-set_same, is_none, Option}
 use mathlib.Core.Bool.{false≢true}
 use Rattle.std.proofs.lemmas.List.{take_more, take_all, set-get_or, ext_get_or, length-replicate, length-take-le, length_push, get_or-replicate}
 use Rattle.std.proofs.lemmas.Bool.{cases_Bool, le-ltb, lt-leb, ltb-true, ltb-false, not-true}
@@ -8,17 +8,18 @@ use Rattle.cnf.specs.Arranging.{arranged}
 use Rattle.cnf.proofs.Arranging.{clause_beyond, clause_twice, clause_arranged}
 use Rattle.drup.specs.History.{is_struck, Live}
 use Rattle.drup.proofs.Numbers.{at_most}
-use Rattle.engine.specs.Meaning.{Meaning, On, is_on, mark_in, with_on, with_mark, with_text, no_put, no_off, TurnsOff}
+use Rattle.engine.specs.Meaning.{Meaning, On, is_on, mark_in, with_on, with_mark, with_text, no_put, no_off, TurnsOff, no_text, no_on, rule, first_broken}
 use Rattle.engine.specs.Meaning.{text_in as text_from}
 use Rattle.engine.specs.declared.faults.EngineFault.{EngineFault}
 use Rattle.engine.proofs.Refusing.{off_done}
-use Rattle.engine.proofs.Allowed.{has_text}
+use Rattle.engine.proofs.Allowed.{has_text, off_allowed}
 use Rattle.job.specs.View.{View, blank_row, text_in, texts}
 use Rattle.job.specs.History.{down_from, inputs_of, steps_of}
 use Rattle.job.specs.CheckFrame.{filled, Large, Lit, Dark}
 use Rattle.job.specs.CheckShowing.{Shows, Holds}
 use Rattle.std.proofs.lemmas.Grind.{replicate_next}
 use Rattle.job.proofs.CheckFit.{Fit}
+use Rattle.engine.specs.declared.faults.EngineFault.TheVariants.{TrialOpen, NoSuchText, AlreadyOn}
 
 -- a clause with its number, as the job and as an engine say it
 pub same_number : (ts : List Clause) → text_from ts ≡ text_in ts
@@ -32,7 +33,7 @@ pub wider : (low high : ℕ) (c : Clause) → low ≤ high → IsClause low c �
 wider low high c h is = record { rising = is.rising; within = λ k i. let w = is.within k i in (w.0, omega (arith, w.1)) }
 
 -- a number that is off cannot be turned off, and need not be
-off_already : (m : Meaning) (n : ℕ) (f : EngineFault) → m.opened ≡ false → 1 ≤ n → n ≤ length m.texts → no_off m n ≡ Some f → m ≡ with_mark n false m
+pub off_already : (m : Meaning) (n : ℕ) (f : EngineFault) → m.opened ≡ false → 1 ≤ n → n ≤ length m.texts → no_off m n ≡ Some f → m ≡ with_mark n false m
 off_already m n f shut low high e =
     elim (cases_Bool (is_on m n)) [
       | inl on ↦
@@ -109,6 +110,32 @@ module _ (s : View) (o : Fit s) where
         ∙ (λ k. record { texts = p k; on = q k; trail = []; opened = false; answers = 0; text_limit = m.text_limit; literal_limit = m.literal_limit })
         ∙ ap (λ (j : ℕ). filled (take j (texts s)) m) (sym one)
 
+-- one mark is set to what it should be
+module _ (s : View) (m : Meaning) (k : ℕ) (before : Meaning) (g : Lit s m k before) (h : k < s.clauses) where
+  pub lit_allowed : m.opened ≡ false → length m.texts ≡ s.clauses → no_on before (suc k) ≡ None
+  lit_allowed shut l =
+      let a : before.opened ≡ false = ap (λ (x : Meaning). x.opened) g.but_for ∙ shut in
+      let b : length before.texts ≡ s.clauses = ap (λ (x : Meaning). length x.texts) g.but_for ∙ l in
+      off_allowed before (suc k) (omega arith) (omega arith) a (g.above k (omega arith))
+
+  pub lit_more : (after : Meaning) → after ≡ with_on (set before.on k (is_none (get_or s.rows k blank_row).struck)) before → Lit s m (k + 1) after
+  lit_more after a =
+      let b = is_none (get_or s.rows k blank_row).struck in
+      let l = g.level in
+      subst (Lit s m (k + 1)) (sym a)
+      (record {
+        but_for = ap (with_on (set before.on k b)) g.but_for;
+        level = length-set before.on k b ∙ g.level;
+        below = λ j x.
+            elim (at_most (suc j) k (omega arith)) [
+              | inl e ↦
+                  let q : j ≡ k = omega arith in
+                  ap (λ (i : ℕ). get_or (set before.on k b) i false) q ∙ get_or-set_same before.on k b false (omega arith) ∙ ap (λ (i : ℕ). is_none (get_or s.rows i blank_row).struck) (sym q)
+              | inr y ↦ get_or-set_other before.on k j b false (λ e. omega arith) ∙ g.below j y
+            ];
+        above = λ j x. get_or-set_other before.on k j b false (λ e. omega arith) ∙ g.above j (omega arith);
+      })
+
 -- one mark more is off
 module _ (c : ℕ) (m : Meaning) (k : ℕ) (before : Meaning) (g : Dark c m k before) where
   pub dark_more : (n : ℕ) → n ≡ k + 1 → k < c → (after : Meaning) → after ≡ with_mark n false before → Dark c m n after
@@ -135,6 +162,47 @@ module _ (c : ℕ) (m : Meaning) (k : ℕ) (before : Meaning) (g : Dark c m k be
       ∙ ap (λ (o : List Bool). with_on o m)
       (ext_get_or false before.on (replicate c false) (g.level ∙ sym (length-replicate c false))
       (λ i x. g.below i (omega arith) ∙ sym (get_or-replicate c i false false (omega arith))))
+
+  pub dark_shut : m.opened ≡ false → before.opened ≡ false
+  dark_shut e = ap (λ (x : Meaning). x.opened) g.but_for ∙ e
+
+  pub dark_texts : length m.texts ≡ c → length before.texts ≡ c
+  dark_texts e = ap (λ (x : Meaning). length x.texts) g.but_for ∙ e
+
+-- where the last rule could be tried, it was not broken
+not_broken : (a b d : Bool) (f g h : EngineFault) → first_broken (rule a f ∷ rule b g ∷ rule d h ∷ []) ≡ None → d ≡ false
+not_broken true b d f g h e = let z : ◌≡◌ {A = ℕ} 0 1 = cc in absurd (omega arith)
+not_broken false true d f g h e = let z : ◌≡◌ {A = ℕ} 0 1 = cc in absurd (omega arith)
+not_broken false false true f g h e = let z : ◌≡◌ {A = ℕ} 0 1 = cc in absurd (omega arith)
+not_broken false false false f g h e = refl
+
+-- a struck clause stays off
+pub lit_skip : (m : Meaning) (i : ℕ) (struck : Option ℕ) → no_on m (suc i) ≡ None → (struck ≡ None → ⊥) → m ≡ with_on (set m.on i (is_none struck)) m
+lit_skip m i None e d = absurd (d refl)
+lit_skip m i (Some step) e d =
+    let off : is_on m (suc i) ≡ false = not_broken m.opened (no_text m (suc i)) (is_on m (suc i)) TrialOpen NoSuchText AlreadyOn e in
+    ap (λ (o : List Bool). with_on o m) (sym (ap (set m.on i) (sym off) ∙ set-get_or m.on i false))
+
+none_there : (k i : ℕ) → get_or (replicate k false) i false ≡ false
+none_there zero i = refl
+none_there (suc k) zero = refl
+none_there (suc k) (suc i) = none_there k i
+
+-- an engine that was just filled
+module _ (s : View) (o : Fit s) (m₀ m : Meaning) (e : m ≡ filled (texts s) m₀) where
+  pub lit_start : Lit s m 0 m
+  lit_start = record {
+    but_for = refl;
+    level = ap (λ (x : Meaning). length x.on) e ∙ length-replicate (length (texts s)) false ∙ o.all_texts;
+    below = λ j h. absurd (omega arith);
+    above = λ j h. ap (λ (x : Meaning). get_or x.on j false) e ∙ none_there (length (texts s)) j;
+  }
+
+  pub filled_shut : m.opened ≡ false
+  filled_shut = ap (λ (x : Meaning). x.opened) e
+
+  pub filled_texts : length m.texts ≡ s.clauses
+  filled_texts = ap (λ (x : Meaning). length x.texts) e ∙ o.all_texts
 
 module _ (s : View) (o : Fit s) where
   -- what is live is on

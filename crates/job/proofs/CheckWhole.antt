@@ -15,7 +15,7 @@ use Rattle.job.specs.View.{View, texts, marks, with_judged}
 use Rattle.job.specs.History.{inputs_of, steps_of, machine_of, box_in}
 use Rattle.job.specs.CheckLists.{unmarked, arcs_of, Framed}
 use Rattle.job.specs.CheckShowing.{Holds}
-use Rattle.job.specs.CheckFrame.{filled, Lit}
+use Rattle.job.specs.CheckFrame.{filled, Lit, Large}
 use Rattle.job.specs.CheckWalking.{Roomy, Ready, Walked}
 use Rattle.job.specs.Checking.{begun, wiped, Allowed, Comes, Idle, told, lent_by, event_of, Leaves}
 use Rattle.job.specs.declared.jobs.reports.Report.{Report}
@@ -68,6 +68,12 @@ module _ (s : View) (o : Fit s) (m : Meaning) (a : Allowed s m) (s₁ : View) (o
   pub framed_first : Framed s s₁
   framed_first = subst (Framed s) (sym e) (framed_begun s some)
 
+  pub large_first : Large s₁ m
+  large_first =
+      let c = clauses_framed s s₁ framed_first in
+      let u : s₁.used ≡ s.used = ap (λ (x : View). x.used) e in
+      (omega (arith, a.large.0), omega (arith, a.large.1))
+
   pub rooms_first : Roomy s₁
   rooms_first = rooms_framed s s₁ framed_first a.rooms
 
@@ -99,7 +105,7 @@ idle_after s s₁ m₂ m₃ f h c q e = record {
   shut = ap (λ (x : Meaning). x.opened) e ∙ h.shut;
 }
 
-framed_judged : (s s' : View) (b : Bool) → Framed s s' → Framed (with_judged b s) (with_judged b s')
+pub framed_judged : (s s' : View) (b : Bool) → Framed s s' → Framed (with_judged b s) (with_judged b s')
 framed_judged s s' b f = record {
   but_for = ap (with_judged b) f.but_for;
   same_rows = f.same_rows;

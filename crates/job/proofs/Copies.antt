@@ -2,20 +2,11 @@
 use Rattle.std.proofs.Common.{◌≡◌, ℕ, zero, suc, ◌<◌, ◌≤◌, Bool, true, false, cond, not, ◌&&◌, eqb, List, [], ◌∷◌, length, Some, None, Option, sym, refl, ap, ◌∙◌, inl, inr, arith}
 use Rattle.std.specs.Prelude.{MatchOption}
 use Rattle.std.proofs.lemmas.Bool.{ne_eqb}
-use Rattle.std.specs.Cmp.Lexicographic.{pointwise}
-use Rattle.cnf.specs.Literals.{same_literal}
 use Rattle.cnf.specs.Clauses.{Clause}
 use Rattle.drup.specs.History.{Step, learned, same_clause, is_struck, live_copy, ended}
 use Rattle.drup.proofs.Numbers.{at_most}
 use Rattle.job.specs.History.{down_from}
 use Rattle.job.proofs.Histories.{length_down}
-
--- clauses are compared literal by literal
-pub same_pointwise : (c d : Clause) → pointwise same_literal c d ≡ same_clause c d
-same_pointwise [] [] = refl
-same_pointwise [] (l ∷ d) = refl
-same_pointwise (k ∷ c) [] = refl
-same_pointwise (k ∷ c) (l ∷ d) = ap (λ (b : Bool). same_literal k l && b) (same_pointwise c d)
 
 -- whether the clause with this number is a live copy
 abbrev pub is_copy : (c : Clause) (text : ℕ → Clause) (steps : List Step) → (n : ℕ) → Bool
@@ -23,7 +14,7 @@ is_copy c text steps n = same_clause c (text n) && not (is_struck n steps)
 
 module _ (c : Clause) (text : ℕ → Clause) (steps : List Step) where
   -- one number down
-  copy_down : (m : ℕ) → live_copy c (down_from text (suc m)) steps ≡ cond (is_copy c text steps (suc m)) (suc m) (live_copy c (down_from text m) steps)
+  pub copy_down : (m : ℕ) → live_copy c (down_from text (suc m)) steps ≡ cond (is_copy c text steps (suc m)) (suc m) (live_copy c (down_from text m) steps)
   copy_down m = ap (λ (k : ℕ). cond (same_clause c (text (suc m)) && not (is_struck (suc k) steps)) (suc k) (live_copy c (down_from text m) steps)) (length_down text m)
 
   -- past numbers that are none

@@ -1,5 +1,5 @@
 -- A job's facts of its view, and which writes leave them.
-use Rattle.std.proofs.Common.{◌≡◌, ℕ, suc, ◌+◌, ◌<◌, ◌≤◌, true, false, List, length, get_or, set, sym, refl, ap, ◌∙◌, subst, arith, get_or-set_other}
+use Rattle.std.proofs.Common.{◌≡◌, ℕ, suc, ◌+◌, ◌<◌, ◌≤◌, true, false, List, length, get_or, set, sym, refl, ap, ◌∙◌, subst, arith, get_or-set_other, Bool}
 use lib.Seq.{paste}
 use Rattle.std.proofs.lemmas.List.{length-set}
 use Rattle.std.proofs.lemmas.List.Edits.{length-paste}
@@ -10,13 +10,14 @@ use Rattle.drup.specs.Laws.{entry_of, strike_of}
 use Rattle.job.specs.declared.rows.ClauseRow.{ClauseRow}
 use Rattle.job.specs.declared.rows.StepRow.{StepRow}
 use Rattle.job.specs.declared.jobs.Job.{Job}
-use Rattle.job.specs.View.{View, blank_row, blank_step, clause_at, text_in, texts, with_rows, with_step_rows, with_lits, bare}
-use Rattle.job.specs.History.{down_from, steps_from, inputs_of, before}
+use Rattle.job.specs.View.{View, blank_row, blank_step, clause_at, text_in, texts, with_rows, with_step_rows, with_lits, bare, with_arcs, with_judged}
+use Rattle.job.specs.History.{down_from, steps_from, inputs_of, before, machine_of}
 use Rattle.job.specs.Sound.{Range, Rooms, Counts, Laid, Rising, Complete, is_next, Numbered, Unended, step_or_none, Dated, Ordered, Sound}
 use Rattle.job.specs.Calls.{laying}
 use Rattle.job.specs.Seen.{view}
 use Rattle.job.proofs.Histories.{down_same, steps_same, table_up, lemma_range, length_down}
 use Rattle.job.proofs.Texts.{laid_within, laid_same, texts_same, clause_kept}
+use Rattle.drup.specs.Forward.{Machine}
 
 -- of each job
 pub sound : (j : Job) → Sound (view j)
@@ -122,11 +123,54 @@ module _ (s : View) (rows : List ClauseRow) (e : length rows ≡ length s.rows)
         omega arith;
   }
 
+  -- and the machine stays
+  pub machine_marked : machine_of (with_rows rows s) ≡ machine_of s
+  machine_marked =
+      ap (λ (ts : List Clause). machine_read s.variables s.places s.room ts s.inputs s.steps s.taken) texts_marked
+    where
+      machine_read : (variables places room : ℕ) → List Clause → (inputs : ℕ) → List StepRow → (taken : ℕ) → Machine
+      machine_read variables places room ts inputs steps taken = record {
+        variables = variables;
+        clause_places = places;
+        literal_places = room;
+        inputs = down_from (text_in ts) inputs;
+        steps = steps_from (text_in ts) steps taken;
+      }
+
 -- a row is written behind those in use
 pub sound_behind : (s : View) (p : ℕ) (row : ClauseRow) → s.clauses ≤ p → Sound s → Sound (with_rows (set s.rows p row) s)
 sound_behind s p row above o =
     sound_rows s (set s.rows p row) (length-set s.rows p row)
     (λ k h. ap bare (get_or-set_other s.rows p k row blank_row (λ at. omega arith))) o
+
+-- other arcs, and another judgement
+pub sound_arcs : (s : View) (arcs : List ℕ) → Sound s → Sound (with_arcs arcs s)
+sound_arcs s arcs o = record {
+  range = o.range;
+  rooms = o.rooms;
+  counts = o.counts;
+  laid = o.laid;
+  rising = o.rising;
+  complete = o.complete;
+  numbered = o.numbered;
+  unended = o.unended;
+  dated = o.dated;
+  ordered = o.ordered;
+}
+
+pub sound_judged : (s : View) (judged : Bool) → Sound s → Sound (with_judged judged s)
+sound_judged s judged o = record {
+  range = o.range;
+  rooms = o.rooms;
+  counts = o.counts;
+  laid = o.laid;
+  rising = o.rising;
+  complete = o.complete;
+  numbered = o.numbered;
+  unended = o.unended;
+  dated = o.dated;
+  ordered = o.ordered;
+}
 
 -- a history up to a step, told by another text that has the same clauses so far, and by rows with the same steps so far
 module _ (s : View) (o : Sound s) (last : ℕ) (h : last ≤ s.taken) (text : ℕ → Clause)

@@ -7,18 +7,19 @@ use Rattle.cnf.specs.Clauses.{Clause, ◌∈◌, IsClause, literals}
 use Rattle.cnf.specs.Arranging.{arranged}
 use Rattle.cnf.proofs.Arranging.{all_cons, arranged_length}
 use Rattle.cnf.proofs.Rising.{ascending_clause}
-use Rattle.drup.specs.History.{Step, table, text, is_struck, begun, same_clause, live_copy, Live}
+use Rattle.drup.specs.History.{Step, table, text, is_struck, begun, same_clause, live_copy, Live, learned, struck, next_number}
 use Rattle.drup.specs.Forward.{full}
 use Rattle.drup.specs.WellFormed.{WellFormed}
 use Rattle.drup.specs.Laws.{StrikesLive, strike_of}
 use Rattle.drup.proofs.Numbers.{text_newest, text_older, at_most}
 use Rattle.job.specs.declared.rows.StepRow.{StepRow}
-use Rattle.job.specs.View.{View, blank_row, text_in, texts}
-use Rattle.job.specs.History.{down_from, steps_from, inputs_of, steps_of, machine_of}
+use Rattle.job.specs.View.{View, blank_row, text_in, texts, blank_step}
+use Rattle.job.specs.History.{down_from, steps_from, inputs_of, steps_of, machine_of, step_of, before}
 use Rattle.job.specs.Sound.{step_or_none, Sound}
 use Rattle.job.specs.Calls.{is_full, copy_in}
-use Rattle.job.proofs.Histories.{length_down, table_down, strikes_live, only_last, strike_none, none_strike}
+use Rattle.job.proofs.Histories.{length_down, table_down, strikes_live, only_last, strike_none, none_strike, next_lemma, next_strike, lemma_range, inputs_within}
 use Rattle.job.proofs.Texts.{laid_literals}
+use Rattle.job.specs.declared.rows.StepRow.TheVariants.{Lemma, Strike}
 
 -- what holds of each number's clause holds of each clause
 all_down : (P : Clause → Type 0) (f : ℕ → Clause) (k : ℕ) → ((n : ℕ) → n < k → P (f (suc n))) → (c : Clause) → c ∈ down_from f k → P c
@@ -92,6 +93,38 @@ module _ (s : View) (o : Sound s) where
       some_step : (m : ℕ) → (m ≡ 0 → ⊥) → is_none (step_or_none m) ≡ false
       some_step zero h = absurd (h refl)
       some_step (suc m) h = refl
+
+  -- the step k + 1, if it learned a lemma
+  pub lemma_at : (k : ℕ) → k < s.taken → (n : ℕ) → get_or s.steps k blank_step ≡ Lemma n
+      → (n ≡ next_number (inputs_of s) (before s k))
+      × (s.inputs < n)
+      × (n ≤ s.clauses)
+      × (before s (suc k) ≡ learned (text_in (texts s) n) ∷ before s k)
+  lemma_at k h n e =
+      let number = next_lemma (inputs_of s) (before s k) (get_or s.steps k blank_step) n (o.numbered k h) e in
+      let high = (lemma_range (text_in (texts s)) s.inputs s.steps s.taken o.numbered k h n e).1 in
+      let low = inputs_within (text_in (texts s)) s.inputs s.steps k (λ j b. o.numbered j (omega arith)) in
+      let all = o.complete in
+      (number, omega arith, omega arith, ap (λ (row : StepRow). step_of (text_in (texts s)) row ∷ before s k) e)
+
+  -- the step k + 1, if it struck a clause
+  pub strike_at : (k : ℕ) → k < s.taken → (n : ℕ) → get_or s.steps k blank_step ≡ Strike n
+      → Live (inputs_of s) (before s k) n × (before s (suc k) ≡ struck n ∷ before s k)
+  strike_at k h n e = (
+    next_strike (inputs_of s) (before s k) (get_or s.steps k blank_step) n (o.numbered k h) e,
+    ap (λ (row : StepRow). step_of (text_in (texts s)) row ∷ before s k) e,
+  )
+
+  -- so far each strike hit a live clause
+  pub strikes_at : (k : ℕ) → k ≤ s.taken → StrikesLive (inputs_of s) (before s k)
+  strikes_at = strikes_live (text_in (texts s)) s.inputs s.steps s.taken o.numbered
+
+  -- so far each number has the clause of its row
+  pub text_at_step : (k : ℕ) → k ≤ s.taken → (n : ℕ) → 1 ≤ n → n ≤ length (table (inputs_of s) (before s k))
+      → text (table (inputs_of s) (before s k)) n ≡ text_in (texts s) n
+  text_at_step k h n low high =
+      ap (λ (cs : List Clause). text cs n) (table_down (text_in (texts s)) s.inputs s.steps s.taken o.numbered k h)
+      ∙ text_down (text_in (texts s)) (length (table (inputs_of s) (before s k))) n low high
 
 -- there is a step
 pub begun_taken : (text : ℕ → Clause) (steps : List StepRow) (k : ℕ) → begun (steps_from text steps k) ≡ ltb 0 k

@@ -1,7 +1,7 @@
 -- The clauses that rows and literals stand for, and what a write leaves of them.
-use Rattle.std.proofs.Common.{◌≡◌, ℕ, zero, suc, ◌+◌, ◌-◌, ◌<◌, ◌≤◌, true, eqb, List, [], ◌∷◌, ◌++◌, map, length, get_or, take, set, sym, refl, ap, ◌∙◌, inl, inr, arith, rules}
+use Rattle.std.proofs.Common.{◌≡◌, ℕ, zero, suc, ◌+◌, ◌-◌, ◌<◌, ◌≤◌, true, eqb, List, [], ◌∷◌, ◌++◌, map, length, get_or, take, set, sym, refl, ap, ◌∙◌, inl, inr, arith, rules, ◌≢◌}
 use lib.Seq.{paste}
-use Rattle.std.proofs.lemmas.List.{ext_get_or, same_lists, places, get_or-map, get_or-take, get_or_push, get_or_append_left, length-map, length-take-le, take_more_set, map_push}
+use Rattle.std.proofs.lemmas.List.{ext_get_or, same_lists, places, get_or-map, get_or-take, get_or_push, get_or_append_left, length-map, length-take-le, take_more_set, map_push, length-set}
 use Rattle.std.proofs.lemmas.Bool.{and_parts, eqb-true}
 use Rattle.cnf.specs.declared.literals.Literal.{Literal}
 use Rattle.cnf.specs.Clauses.{Clause, literals}
@@ -96,6 +96,15 @@ text_older texts c (suc n) low high = get_or_append_left texts (c ∷ []) [] n h
 
 pub text_newest : (texts : List Clause) (c : Clause) (n : ℕ) → length texts ≡ n → text_in (texts ++ c ∷ []) (suc n) ≡ c
 text_newest texts c n e = get_or_push texts c [] n e
+
+-- a literal is written behind those of a row
+pub clause_beyond : (lits : List Literal) (p : ℕ) (l : Literal) (row : ClauseRow) → row.start + row.len ≤ p → p < length lits
+    → clause_at (set lits p l) row ≡ clause_at lits row
+clause_beyond lits p l row w b =
+    let e = length-set lits p l in
+    let n = length_clause (set lits p l) row (omega arith) in
+    same_lists _ _ (search (rules, places))
+    (λ k d h. let ne : row.start + k ≢ p = omega arith in grind (arith, places))
 
 -- literals are laid behind those of a row
 module _ (lits : List Literal) (used : ℕ) (c : Clause) (fits : used + length c ≤ length lits) where

@@ -5,7 +5,6 @@ ghost use Rattle.lines.specs.Texts.{literal_text, clause_line, pair_line, headin
 
 use crate::pages::Page;
 use cnf::literals::Literal;
-use itoa::Buffer;
 
 /// What is written as a text. It is no `Display`: by its contract `fmt` may fail wherever it likes, and a writer here
 /// fails only where there is not enough room.
@@ -23,8 +22,7 @@ impl Text for u64 {
     ghost bytes = { decimal };
 
     fn add_to(&self, page: &mut Page<'_>) {
-        let mut buffer = Buffer::new();
-        page.add(buffer.format(*self).as_bytes());
+        page.add_number(*self);
     }
 }
 
@@ -33,9 +31,7 @@ impl Text for Literal {
     ghost bytes = { literal_text };
 
     fn add_to(&self, page: &mut Page<'_>) {
-        if self.negated {
-            page.add(b"-");
-        }
+        page.add_if(self.negated, b'-');
         u64::from(self.variable).add_to(page);
     }
 }
@@ -49,6 +45,9 @@ impl Text for ClauseLine<'_> {
 
     fn add_to(&self, page: &mut Page<'_>) {
         for literal in self.0 {
+            if page.is_full() {
+                return;
+            }
             literal.add_to(page);
             page.add(b" ");
         }
@@ -113,6 +112,9 @@ impl Text for FormulaText<'_> {
     fn add_to(&self, page: &mut Page<'_>) {
         PairLine::heading(u64::from(self.variables), self.clauses.len() as u64).add_to(page);
         for clause in self.clauses {
+            if page.is_full() {
+                return;
+            }
             ClauseLine(clause).add_to(page);
         }
     }

@@ -9,16 +9,19 @@ use crate::pages::Page;
 use crate::texts::{ClauseLine, FormulaText, PairLine, Text};
 use cnf::literals::Literal;
 
-/// Writes a text. It is first added to a page with no room, which counts it.
+/// Writes a text. It is first added to a page with no room, whose count is full just if `out` has not enough.
 fn write<T: Text>(out: &mut [u8], at: usize, text: &T) -> Result<usize, WriteFault>
     ensures { Writes out.old at (T.bytes text.now) result out.new }
 {
+    let Some(room) = out.len().checked_sub(at) else {
+        return Err(WriteFault::NoRoom);
+    };
     let mut count = Page {
         out: &mut [],
-        next: at,
+        next: usize::MAX - 1 - room,
     };
     text.add_to(&mut count);
-    if count.next > out.len() {
+    if count.is_full() {
         return Err(WriteFault::NoRoom);
     }
     let mut page = Page { out, next: at };

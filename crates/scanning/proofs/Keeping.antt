@@ -7,7 +7,7 @@ use Rattle.std.proofs.lemmas.Grind.{common_steps}
 use Rattle.std.proofs.lemmas.List.Folds.{list_all-append}
 use Rattle.std.proofs.lemmas.Slice.{take-put_mid_below, between-put_mid}
 use borrow.Rule.Slice.PartMut.{put_mid}
-use Rattle.std.proofs.lemmas.List.{length-append, length-take-le, length-drop, take_more_set, drop-take, take-take, get_or-map, get_or-take, map_push}
+use Rattle.std.proofs.lemmas.List.{length-append, length-map, length-take-le, length-drop, take_more_set, drop-take, take-take, get_or-map, get_or-take, map_push}
 use Rattle.cnf.specs.declared.literals.Literal.{Literal}
 use Rattle.cnf.specs.Clauses.{Clause, IsClause, literals}
 use Rattle.cnf.specs.Ascending.{ascending}
@@ -21,6 +21,9 @@ use Rattle.scanning.specs.Store.{blank_row, stored_text, texts_in, marks_in, Pla
 
 -- what stands at a number
 module _ (rows : List TextRow) (count : ℕ) (enough : count ≤ length rows) where
+  pub texts_length : (places : List Literal) → length (texts_in rows places count) ≡ count
+  texts_length places = length-map (take count rows) (stored_text places) ∙ length-take-le count rows enough
+
   pub mark_at : (n : ℕ) → 1 ≤ n → n ≤ count → mark_in (marks_in rows count) n ≡ (get_or rows (n - 1) blank_row).on
   mark_at zero low high = absurd (omega arith)
   mark_at (suc k) low high =

@@ -1,18 +1,19 @@
 -- What a scanning engine reads of its texts.
-use Rattle.std.proofs.Common.{◌≡◌, ℕ, ◌-◌, ◌<◌, ◌≤◌, Bool, true, false, cond, ◌||◌, eqb, ltb, List, length, get_or, Some, None, Ok, Err, Option, Result, sym, refl, ap, ◌∙◌, subst, arith}
+use Rattle.std.proofs.Common.{◌≡◌, ℕ, ◌+◌, ◌-◌, ◌<◌, ◌≤◌, Bool, true, false, cond, ◌&&◌, ◌||◌, eqb, ltb, leb, List, length, get_or, Some, None, Ok, Err, Option, Result, sym, refl, ap, ◌∙◌, subst, arith}
 use mathlib.Core.Bool.{false≢true}
 use denote.Ref.{Bor}
+use Rattle.std.proofs.lemmas.Bool.{and_from, or_parts, or_left, or_right, eq-eqb, ltb-false, lt-ltb, leb-false}
 use Rattle.std.specs.Prelude.{MatchBool, MatchOption}
 use Rattle.std.specs.Result.{result_ok}
 use Rattle.cnf.specs.declared.literals.Literal.{Literal}
 use Rattle.cnf.specs.declared.literals.Forced.{Forced}
 use Rattle.engine.specs.declared.faults.EngineFault.{EngineFault}
 use Rattle.engine.specs.declared.faults.EngineFault.TheVariants.{NoSuchText}
-use Rattle.engine.specs.Meaning.{Meaning, is_on, On, values, text_of}
+use Rattle.engine.specs.Meaning.{Meaning, is_on, On, values, text_of, no_text, no_room}
 use Rattle.engine.specs.Limits.{placed}
 use Rattle.engine.specs.Looks.{falsified, forced}
 use Rattle.engine.specs.Lowest.{FalseAt, ForcesAt, LowestFalse, LowestForcing}
-use Rattle.engine.proofs.Consistent.{number_is_in}
+use Rattle.engine.proofs.Consistent.{number_in, number_is_in}
 use Rattle.engine.proofs.Keeping.{on_within}
 use Rattle.std.proofs.lemmas.Option.{none-some, same_Some}
 use Rattle.engine.proofs.Looking.{falsified_true, falsified_there, forced_is, IsForced}
@@ -37,12 +38,39 @@ module _ (s : Scanning) where
   enough : s.books.room.texts ≤ length s.rows.now
   enough = omega (arith, s.books.room.few, s.served)
 
+  -- which numbers have a text
+  pub no_text_low : (n : ℕ) → n ≡ 0 → no_text (scan_meaning s) n ≡ true
+  no_text_low n e = or_left (eqb n 0) _ (eq-eqb n 0 e)
+
+  pub no_text_high : (n : ℕ) → s.books.room.texts < n → no_text (scan_meaning s) n ≡ true
+  no_text_high n h = let k = texts_length s in or_right (eqb n 0) _ (lt-ltb (length (scan_meaning s).texts) n (omega arith))
+
+  pub has_text : (n : ℕ) → 1 ≤ n → n ≤ s.books.room.texts → no_text (scan_meaning s) n ≡ false
+  has_text n low high = let k = texts_length s in number_in (length (scan_meaning s).texts) n low (omega arith)
+
+  pub has_number : (n : ℕ) → no_text (scan_meaning s) n ≡ false → (1 ≤ n) × (n ≤ s.books.room.texts)
+  has_number n e =
+      let k = texts_length s in
+      let w = number_is_in (length (scan_meaning s).texts) n e in
+      (w.0, omega arith)
+
   module _ (n : ℕ) (low : 1 ≤ n) (high : n ≤ s.books.room.texts) where
     pub on_is : is_on (scan_meaning s) n ≡ (get_or s.rows.now (n - 1) blank_row).on
     on_is = mark_at s.rows.now s.books.room.texts enough n low high
 
     pub text_is : text_of (scan_meaning s) n ≡ stored_text s.places.now (get_or s.rows.now (n - 1) blank_row)
     text_is = text_at_lem s.rows.now s.books.room.texts enough s.places.now n low high
+
+  -- the rule for room, over what the engine keeps count of
+  pub room_is : (k : ℕ) → no_room (scan_meaning s) k
+      ≡ (leb s.books.room.limits.texts s.books.room.texts || ltb s.books.room.limits.literals (s.books.room.literals + k))
+  room_is k = let a = texts_length s in λ i. leb s.books.room.limits.texts (a i) || ltb s.books.room.limits.literals (s.counted i + k)
+
+  pub room_for : (k : ℕ) → no_room (scan_meaning s) k ≡ false
+      → (s.books.room.texts < s.books.room.limits.texts) × (s.books.room.literals + k ≤ s.books.room.limits.literals)
+  room_for k e =
+      let p = or_parts (leb s.books.room.limits.texts s.books.room.texts) (ltb s.books.room.limits.literals (s.books.room.literals + k)) (sym (room_is k) ∙ e) in
+      (leb-false s.books.room.limits.texts s.books.room.texts p.0, ltb-false s.books.room.limits.literals (s.books.room.literals + k) p.1)
 
   -- no number beyond the texts is on
   pub on_low : (n : ℕ) → On (scan_meaning s) n → (1 ≤ n) × (n ≤ s.books.room.texts)
@@ -68,6 +96,9 @@ module _ (m : Meaning) (n : ℕ) where
   pub false_at : (b : Bool) → On m n → b ≡ falsified (values m) (text_of m n) → MatchBool b (FalseAt m n) (FalseAt m n → ⊥)
   false_at true o e = (o, falsified_true (values m) (text_of m n) (sym e))
   false_at false o e = λ f. false≢true (e ∙ falsified_there (values m) (text_of m n) f.1)
+
+  pub false_there : FalseAt m n → (is_on m n && falsified (values m) (text_of m n)) ≡ true
+  false_there f = and_from (is_on m n) (falsified (values m) (text_of m n)) f.0 (falsified_there (values m) (text_of m n) f.1)
 
   -- and at any number, by a look at the text if it is on
   pub false_look : {Seen : Bor (List Literal) → Type 0} (r : Option (Bor (List Literal))) (b : Bool)

@@ -4,7 +4,7 @@ use Rattle.std.proofs.Common.{sym, ◌∙◌, subst}
 use Rattle.std.proofs.Math.Nat.{le_trans}
 use Rattle.std.proofs.lemmas.List.{length-map, length-take-le}
 use Rattle.engine.specs.Meaning.{WellFormed}
-use Rattle.engine.proofs.Parts.{no_trail, rising_clauses}
+use Rattle.engine.proofs.Parts.{rising_clauses}
 use Rattle.scanning.specs.declared.Scanning.{Scanning}
 use Rattle.scanning.specs.declared.rows.TextRow.{TextRow}
 use Rattle.scanning.specs.Store.{stored_text}
@@ -23,7 +23,7 @@ scan_laws s = record {
   few_texts = subst (λ (n : ℕ). n ≤ s.books.room.limits.texts) (sym (texts_length s)) s.books.room.few.0;
   few_literals = subst (λ (n : ℕ). n ≤ s.books.room.limits.literals) (sym s.counted) s.books.room.few.1;
   consistent = s.books.session.consistent;
-  at_rest = no_trail s.books.session.trail;
+  at_rest = s.books.session.at_rest;
   countable = s.books.session.countable;
   small = s.small;
 }

@@ -1,5 +1,5 @@
 -- Asking until there is a conflict or nothing more.
-use Rattle.std.proofs.Common.{◌≡◌, ℕ, suc, ◌+◌, ◌<◌, ◌≤◌, min, List, [], ◌∷◌, ◌++◌, length, reverse, Some, None, sym, ap, ◌∙◌, subst, inl, inr, append_assoc, arith}
+use Rattle.std.proofs.Common.{◌≡◌, ℕ, suc, ◌+◌, ◌<◌, ◌≤◌, min, List, [], ◌∷◌, ◌++◌, length, reverse, Some, None, sym, refl, ap, ◌∙◌, subst, inl, inr, append_assoc, arith}
 use mathlib.Core.List.{reverse-cons}
 use mathlib.Core.List.Memᴰ
 use mathlib.Core.List.Memᴰ.{cases_cons as in-cons}
@@ -10,14 +10,15 @@ use Rattle.cnf.specs.declared.literals.Literal.{Literal}
 use Rattle.cnf.specs.declared.literals.Forced.{Forced}
 use Rattle.cnf.specs.Literals.{complement}
 use Rattle.cnf.specs.Clauses.{Clause, ◌∈◌}
-use Rattle.cnf.specs.Propagation.{Falsified, Forces}
-use Rattle.cnf.proofs.Arranging.{in_push}
+use Rattle.cnf.specs.Propagation.{Falsified, Forces, Derivation}
+use Rattle.cnf.proofs.Arranging.{all_cons, in_push}
 use Rattle.drup.specs.Backward.{trail, RightOver}
 use Rattle.engine.specs.declared.answers.Answer.{Answer}
 use Rattle.engine.specs.declared.answers.Answer.TheVariants.{Conflict, Forced as ForcedBy, Nothing}
 use Rattle.engine.specs.Meaning.{Meaning, highest, most, On, text_of, values, values_of, with_trail, counted, counted_by, Says, answered, WellFormed}
 use Rattle.engine.proofs.Consistent.{consistent_length}
 use Rattle.trial.specs.Trying.{EndsRight}
+use Rattle.trial.proofs.Counted.{up_none}
 
 -- two lists with the same elements
 pub record Same (t u : List Literal) : Type 0 where
@@ -29,16 +30,30 @@ swapped a = record { there_too = a.back; back = a.there_too }
 
 -- a clause does the same under both
 module _ (t u : List Literal) (same : Same t u) (c : Clause) where
-  same_falsified : Falsified t c → Falsified u c
+  pub same_falsified : Falsified t c → Falsified u c
   same_falsified f k m = same.there_too (complement k) (f k m)
 
-  same_forces : (l : Literal) → Forces t c l → Forces u c l
+  pub same_forces : (l : Literal) → Forces t c l → Forces u c l
   same_forces l f = record {
     stands = f.stands;
     not_true = λ m. f.not_true (same.back l m);
     not_false = λ m. f.not_false (same.back (complement l) m);
     others = λ k m d. same.there_too (complement k) (f.others k m d);
   }
+
+same_more : {t u : List Literal} (l : Literal) → Same t u → Same (l ∷ t) (l ∷ u)
+same_more {t} {u} l a = record {
+  there_too = all_cons (λ k. k ∈ (l ∷ u)) (here refl) (λ k m. there (a.there_too k m));
+  back = all_cons (λ k. k ∈ (l ∷ t)) (here refl) (λ k m. there (a.back k m));
+}
+
+-- a derivation stands under any trail with the same literals
+pub same_derives : (s : Clause → Type 0) (t u : List Literal) (row : List Clause) → Same t u → Derivation s t row → Derivation s u row
+same_derives s t u [] a d = d
+same_derives s t u (c ∷ []) a d = (d.0, same_falsified t u a c d.1)
+same_derives s t u (c ∷ e ∷ row) a d =
+    let l = d.1.0 in
+    (d.0, (l, same_forces t u a c l d.1.1, same_derives s (l ∷ t) (l ∷ u) (e ∷ row) (same_more l a) d.1.2))
 
 -- an engine's trail has the literals of the trail that answers, the latest first, are judged by
 same_trail : (before answers : List Forced) → Same (values_of (before ++ reverse answers)) (trail (values_of before) answers)
@@ -69,6 +84,13 @@ same_trail before (f ∷ earlier) =
 pub record Asked (m : Meaning) (noted : List Forced) (during : Meaning) : Type 0 where
   pub so_far : during ≡ with_trail (m.trail ++ noted) (counted_by (length noted) m)
   pub right : RightOver (On m) (text_of m) (values m) (reverse noted)
+
+-- before the first question
+pub at_start : (m : Meaning) → WellFormed m → Asked m [] m
+at_start m well = record {
+  so_far = λ i. record { texts = m.texts; on = m.on; trail = sym (append-nil m.trail) i; opened = m.opened; answers = up_none m.answers well.countable i; text_limit = m.text_limit; literal_limit = m.literal_limit };
+  right = tt;
+}
 
 -- there are at most as many literals on the trail as variables
 pub few_noted : (m : Meaning) (noted : List Forced) (k : ℕ) (during : Meaning) → WellFormed during → during ≡ with_trail (m.trail ++ noted) (counted_by k m)

@@ -6,7 +6,7 @@ use Rattle.cnf.specs.declared.literals.Forced.{Forced}
 use Rattle.cnf.specs.Literals.{complement}
 use Rattle.cnf.specs.Clauses.{Clause}
 use Rattle.cnf.specs.Arranging.{arrangement, beyond, twice}
-use Rattle.cnf.specs.Propagation.{Derivation, Falsified, Forces, Passes}
+use Rattle.cnf.specs.Propagation.{Derivation, Falsified, Forces}
 use Rattle.cnf.proofs.Derivations.{derives_before, saturated}
 use Rattle.drup.specs.Backward.{RightOver, trail, asked}
 use Rattle.drup.proofs.Trials.{assumed_stays}
@@ -16,23 +16,22 @@ use Rattle.trial.specs.Trying.{EndsRight}
 use Rattle.trial.specs.Trials.{OnText, Decides, Tried, Tries}
 
 -- a derivation under the whole trail gives one under what was assumed
-derives : (m : Meaning) (assumed : List Literal) (answers : List Forced) (row : List Clause) → RightOver (On m) (text_of m) assumed answers
+pub derives : (m : Meaning) (assumed : List Literal) (answers : List Forced) (row : List Clause) → RightOver (On m) (text_of m) assumed answers
     → Derivation (OnText m) (trail assumed answers) row → (all : List Clause) × Derivation (OnText m) assumed all
 derives m assumed [] row right d = (row, d)
 derives m assumed (f ∷ earlier) row right d =
     derives m assumed earlier (text_of m f.number ∷ row) right.2
     (derives_before (OnText m) (trail assumed earlier) (text_of m f.number) f.literal row (f.number, right.0, refl) right.1 d)
 
--- a conflict shows that the lemma passes, and nothing that it does not
-decides : (m : Meaning) (c : Clause) (answers : List Forced) (end : Option ℕ) → EndsRight m (map complement c) answers end
-    → Decides (is_some end) (Passes (OnText m) c)
-decides m c answers (Some n) r = derives m (map complement c) answers (text_of m n ∷ []) r.right ((n, r.live, refl), r.false_there)
-decides m c answers None r = λ passes.
-    let assumed = map complement c in
+-- how a trial ends tells whether a conflict is derived from what was assumed
+pub decides : (m : Meaning) (assumed : List Literal) (answers : List Forced) (end : Option ℕ) → EndsRight m assumed answers end
+    → Decides (is_some end) ((row : List Clause) × Derivation (OnText m) assumed row)
+decides m assumed answers (Some n) r = derives m assumed answers (text_of m n ∷ []) r.right ((n, r.live, refl), r.false_there)
+decides m assumed answers None r = λ derived.
     let clash =
-    saturated {s = OnText m} (trail assumed answers) assumed passes.0
+    saturated {s = OnText m} (trail assumed answers) assumed derived.0
     (λ d l s f. r.none_forces s.0 l s.1 (subst (λ (x : Clause). Forces (trail assumed answers) x l) (sym s.2) f))
-    (assumed_stays assumed answers) passes.1 in
+    (assumed_stays assumed answers) derived.1 in
     r.none_false clash.1.0 clash.1.1 (subst (Falsified (trail assumed answers)) (sym clash.1.2) clash.2)
 
 -- a trial of the clause that literals make is one of the literals
@@ -44,7 +43,7 @@ tried m well o ls c made answers end after right a few =
     let (inside, once, same) = arranges ls c made in (
       cond-false m.opened _ _ o ∙ cond-false (beyond highest ls) _ _ inside ∙ cond-false (twice ls) _ _ once,
       subst (λ (x : Clause). Tried m x (is_some end) after) (sym same) (
-        decides m c answers end right,
+        decides m (map complement c) answers end right,
         (
           length answers,
           few,

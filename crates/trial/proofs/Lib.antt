@@ -1,3 +1,5 @@
+pub mod Noting
+pub mod Counted
 pub mod Supposing
 pub mod Asking
 pub mod Trying

@@ -1,13 +1,13 @@
 -- A whole trial, from what the engine was before it.
 use Rattle.std.proofs.Common.{◌≡◌, ℕ, ◌+◌, ◌≤◌, true, false, List, [], ◌++◌, map, length, reverse, Some, None, Option, sym, ap, ◌∙◌, subst, arith}
-use Rattle.std.proofs.lemmas.List.{length-map, length-reverse}
+use Rattle.std.proofs.lemmas.List.{length-reverse}
 use Rattle.cnf.specs.declared.literals.Literal.{Literal}
 use Rattle.cnf.specs.Literals.{complement}
 use Rattle.cnf.specs.declared.literals.Forced.{Forced}
-use Rattle.engine.specs.Meaning.{Meaning, highest, values, values_of, entry, with_trail, with_opened, counted_by, WellFormed}
+use Rattle.engine.specs.Meaning.{Meaning, highest, values, values_of, with_trail, with_opened, counted_by, WellFormed}
 use Rattle.trial.specs.Trying.{supposed, EndsRight}
 use Rattle.trial.proofs.Asking.{few_noted}
-use Rattle.trial.proofs.Supposing.{values_supposed}
+use Rattle.trial.proofs.Supposing.{values_supposed, supposed_length}
 
 -- once the complements of these literals are assumed
 module _ (m during : Meaning) (ls : List Literal) (d : during ≡ with_trail (supposed ls) (with_opened true m)) where
@@ -34,6 +34,6 @@ module _ (m during : Meaning) (ls : List Literal) (d : during ≡ with_trail (su
       → length ls + length (reverse noted) ≤ highest
   few k noted asked well a =
       let h = few_noted during noted k asked well a in
-      let e = ap (λ (x : Meaning). length x.trail) d ∙ length-map ls (λ (l : Literal). entry (complement l) 0) in
+      let e = ap (λ (x : Meaning). length x.trail) d ∙ supposed_length ls in
       let r = length-reverse noted in
       omega arith

@@ -15,7 +15,7 @@ use engine::trails::Trail;
 use engine::trials::Trial;
 
 /// How a trial ended.
-#[derive(Drop)]
+#[derive(Clone, Copy)]
 pub struct TrialEnd {
     /// The literals that were forced, each with the number of the text that forced it, oldest first.
     pub answers: Trail,

@@ -25,7 +25,7 @@ front_solid (b ∷ bs) =
     (cases_Bool (inner b))
 
 -- behind the front is a blank, or the end
-front_whole : (bs : List ℕ) → inner (get_or bs (prefix_len inner bs) 32) ≡ false
+pub front_whole : (bs : List ℕ) → inner (get_or bs (prefix_len inner bs) 32) ≡ false
 front_whole bs =
     ⊎_elim (λ within. prefix_len_stops inner bs 32 within) (λ past. ap inner (get_or_past bs (prefix_len inner bs) 32 past)) (cases_lt (prefix_len inner bs) (length bs))
 

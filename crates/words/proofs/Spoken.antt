@@ -113,7 +113,10 @@ decimal_spelled n fits = spelled_digits (decimal n) (digits_decimal own n fits) 
 pub minus_spelled : (n : ℕ) → 0 < n → n < 2 ^ 64 → Spelled (45 ∷ decimal n)
 minus_spelled n some fits = spelled_minus (decimal n) (digits_decimal own n fits) (decimal_plain n some fits)
 
--- no other number than 0 is written as the word `0`
+-- `0` is the word that a number 0 is written as, and no other number is
+pub zero_is_zero : is_zero (decimal 0) ≡ true
+zero_is_zero = ap is_zero (decimal_digit 0 (omega arith))
+
 pub decimal_not_zero : (n : ℕ) → 0 < n → n < 2 ^ 64 → is_zero (decimal n) ≡ false
 decimal_not_zero n some fits = and_right _ _ (ne_eqb (get_or (decimal n) 0 0) 48 (λ q. omega (arith, first_decimal n some fits)))
 
@@ -127,3 +130,7 @@ digits_no_minus (b ∷ bs) h some = grind (arith, nat_tests)
 
 pub decimal_no_minus : (n : ℕ) → n < 2 ^ 64 → eqb (get_or (decimal n) 0 0) 45 ≡ false
 decimal_no_minus n fits = digits_no_minus (decimal n) (digits_decimal own n fits) (decimal_nonempty n fits)
+
+-- a word that begins with a minus is no number without a sign
+pub minus_not_natural : (ds : List ℕ) → natural (45 ∷ ds) ≡ false
+minus_not_natural ds = refl

@@ -1,5 +1,5 @@
 -- On the number that digits write. Assumes nothing.
-use Rattle.std.proofs.Common.{◌≡◌, ℕ, ◌+◌, ◌-◌, ◌*◌, min, true, List, [], ◌∷◌, refl, ap, ◌∙◌, arith, rules}
+use Rattle.std.proofs.Common.{◌≡◌, ℕ, ◌+◌, ◌-◌, ◌*◌, ◌≤◌, min, true, List, [], ◌∷◌, refl, ap, ◌∙◌, arith, rules}
 use Rattle.std.specs.List.{fold}
 use Rattle.std.specs.Str.{all_ascii_digits}
 use Rattle.std.proofs.lemmas.Str.Parse.{IsNumeralModel, numerals_by_fold, tells_all_ascii_digits}
@@ -8,6 +8,11 @@ use Rattle.words.specs.Numbers.{read_on, value}
 -- the shelf's laws of decimal numerals, at the words of this crate
 pub own : IsNumeralModel (λ ds. all_ascii_digits ds ≡ true) value
 own = numerals_by_fold _ tells_all_ascii_digits (fold read_on) (search rules)
+
+-- a number that reads on grows
+pub grows : (n : ℕ) (ds : List ℕ) → n ≤ fold read_on n ds
+grows n [] = omega arith
+grows n (c ∷ cs) = omega (arith, grows (n * 10 + (c - 48)) cs)
 
 -- one digit more, each step held down to top
 abbrev pub held_on : ℕ → ℕ → ℕ → ℕ

@@ -18,10 +18,10 @@ pub inner_more : (b : ℕ) (bs : List ℕ) → inner b ≡ true → prefix_len i
 inner_more b bs e = cond-true (inner b) _ _ e ∙ one-add _
 
 -- the gap goes on at a byte that is passed over
-gap_more : (m : Mode) (b : ℕ) (bs : List ℕ) → passes m b ≡ true → gap m (b ∷ bs) ≡ suc (gap (after m b) bs)
+pub gap_more : (m : Mode) (b : ℕ) (bs : List ℕ) → passes m b ≡ true → gap m (b ∷ bs) ≡ suc (gap (after m b) bs)
 gap_more m b bs e = cond-true (passes m b) _ _ e ∙ one-add _
 
-gap_none : (m : Mode) (b : ℕ) (bs : List ℕ) → passes m b ≡ false → gap m (b ∷ bs) ≡ 0
+pub gap_none : (m : Mode) (b : ℕ) (bs : List ℕ) → passes m b ≡ false → gap m (b ∷ bs) ≡ 0
 gap_none m b bs e = cond-false (passes m b) (1 + gap (after m b) bs) 0 e
 
 -- the rest of a word is dropped

@@ -36,9 +36,11 @@ impl Mode {
     fn after(self, b: u8) -> Mode
         ensures { result ≡ after self b }
     {
+        // A comment is passed over quickest with the arms in this order.
         match (self, b) {
+            (Mode::Fresh, b'c') => Mode::Comment,
             (_, b'\n') => Mode::Fresh,
-            (Mode::Fresh, b'c') | (Mode::Comment, _) => Mode::Comment,
+            (Mode::Comment, _) => Mode::Comment,
             _ => Mode::Within,
         }
     }

@@ -13,6 +13,14 @@ use crate::rows::StepRow;
 use cnf::literals::Literal;
 use engine::looks::text_at;
 
+/// Whether two clauses have the same literals; both stand by rising variable.
+// Pair by pair up to the first that differs, since most clauses differ in their first literals.
+fn same_clause(a: &[Literal], b: &[Literal]) -> bool
+    ensures { result ≡ same_clause a.now b.now }
+{
+    a.len() == b.len() && a.iter().zip(b).all(|(k, l)| k == l)
+}
+
 impl Job<'_> {
     /// The literals of the clause with this number.
     pub(crate) fn text(&self, n: u16) -> &[Literal]
@@ -61,7 +69,7 @@ impl Job<'_> {
         requires { Entered self.now.clauses n }
         ensures { result ≡ (same_clause clause.now (text_in (texts (view self.now)) n) && not (is_struck n (steps_of (view self.now)))) }
     {
-        clause == self.text(n) && self.record(n).is_live()
+        same_clause(clause, self.text(n)) && self.record(n).is_live()
     }
 
     /// The highest number of a live clause with these literals.

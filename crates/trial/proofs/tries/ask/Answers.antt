@@ -1,23 +1,15 @@
 use Rattle.std.proofs.Common.{List, length, sym, ap, ◌∙◌, subst, arith}
 use Rattle.std.proofs.lemmas.List.{length_push}
 use Rattle.cnf.specs.declared.literals.Forced.{Forced}
-use Rattle.engine.specs.Meaning.{values}
 use Rattle.engine.specs.Trails.{entries_of}
-use Rattle.trial.specs.Noted.{latest}
-use Rattle.trial.specs.Trying.{EndsRight}
 use Rattle.trial.proofs.Asking.{Asked, goes_on, room, in_conflict, in_nothing}
-use Rattle.trial.proofs.tries.ask.Goals.{in-Conflict, in-Nothing}
 use Rattle.trial.proofs.tries.ask.Goals as goal
 
-pub returns-clause-right : goal.returns-clause-right
-returns-clause-right g c =
-    let m = g.E.Engine.meaning c.args.engine.now in
-    let right = EndsRight m (values m) (latest c.loop-number.answers) in
-    let asked = c.loop-number.invariant in
-    elim c.match-next.branch [
-      | in-Conflict w ↦ subst right (sym w.conflict-is) (in_conflict asked w.in-Conflict.number w.in-Conflict.ensures.says)
-      | in-Nothing w ↦ subst right (sym w.conflict-is) (in_nothing asked w.in-Nothing.ensures.says)
-    ]
+pub returns-in-Conflict-clause-right : goal.returns-in-Conflict-clause-right
+returns-in-Conflict-clause-right g c = in_conflict c.loop-number.invariant c.in-Conflict.number c.in-Conflict.ensures.says
+
+pub returns-in-Nothing-clause-right : goal.returns-in-Nothing-clause-right
+returns-in-Nothing-clause-right g c = in_nothing c.loop-number.invariant c.in-Nothing.ensures.says
 
 pub push-requires : goal.push-requires
 push-requires g c = room c.loop-number.invariant c.in-Forced.forced c.in-Forced.ensures.says c.in-Forced.ensures.does (g.E.Engine.laws c.next.new.engine)

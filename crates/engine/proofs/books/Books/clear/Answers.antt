@@ -1,9 +1,7 @@
 use Rattle.std.proofs.Common.{refl, ap, ◌∙◌}
 use Rattle.std.proofs.lemmas.Result.{err_from_is_err_and}
 use Rattle.engine.specs.declared.limits.Limits.{Limits}
-use Rattle.engine.specs.Trails.{is_there}
 use Rattle.engine.specs.Books.{in_books}
-use Rattle.engine.proofs.Parts.{no_trail}
 use Rattle.engine.proofs.Refusing.{alike, judged_fault, judged_none, shut_passes}
 use Rattle.engine.proofs.books.Books.clear.Goals as goal
 
@@ -16,10 +14,10 @@ pub returns-clause-clears : goal.returns-clause-clears
 returns-clause-clears c texts marks =
     let m = in_books c.args.self.now texts marks in
     let none = c.in_ok-ensure_shut.ensures m in
-    let closed = ap is_there c.restart.ensures.0 ∙ shut_passes m none in
+    let closed = c.restart.ensures.kept.1 ∙ shut_passes m none in
     let limits = c.clear.ensures.limits in (
       judged_none _ none,
-      alike refl refl (no_trail c.restart.new.self.trail closed) closed c.restart.ensures.1
+      alike refl refl (c.restart.new.self.at_rest closed) closed c.restart.ensures.answers
           (ap (λ (l : Limits). l.texts) limits) (ap (λ (l : Limits). l.literals) limits),
       c.clear.ensures.empty,
     )

@@ -3,7 +3,7 @@ use Rattle.std.proofs.lemmas.Result.{err_from_is_err_and}
 use Rattle.cnf.specs.declared.literals.Forced.{Forced}
 use Rattle.engine.specs.Meaning.{with_trail, with_opened}
 use Rattle.engine.specs.Sessions.{in_session}
-use Rattle.engine.proofs.Refusing.{judged_fault, judged_none}
+use Rattle.engine.proofs.Refusing.{judged_fault, judged_none, shut_passes}
 use Rattle.engine.proofs.sessions.Session.begin.Goals as goal
 
 pub returns-in_err-ensure_shut : goal.returns-in_err-ensure_shut
@@ -12,7 +12,7 @@ returns-in_err-ensure_shut c m =
     rw (p.1, p.2) (judged_fault _ _ (c.in_err-ensure_shut.ensures m), refl)
 
 pub returns : goal.returns
-returns c m = (
-  judged_none _ (c.in_ok-ensure_shut.ensures m),
-  ap (λ (t : List Forced). with_trail t (with_opened true (in_session c.args.self.now m))) c.new.ensures,
-)
+returns c m =
+    let none = c.in_ok-ensure_shut.ensures m in
+    let was = in_session c.args.self.now m in
+    (judged_none _ none, ap (λ (t : List Forced). with_trail t (with_opened true was)) (c.args.self.now.at_rest (shut_passes was none)))

@@ -1,4 +1,4 @@
-use Rattle.std.proofs.Common.{sym}
+use Rattle.std.proofs.Common.{sym, rules}
 use Rattle.job.specs.Seen.{view}
 use Rattle.job.proofs.Keeping.{sound}
 use Rattle.job.proofs.CheckFit.{fit}
@@ -16,5 +16,5 @@ returns g c =
     let j = c.args.self.now in
     let m = g.E.Engine.meaning c.args.engine.now in
     let free = none_refused (view j) (fit (view j) (sound j)) m (sym c.if-not-is_ended.ensures) (sym c.if-is_short.ensures) (sym c.if-is_open.ensures) in
-    let out = outcome (view j) m free (view c.run-report.new.self) _ c.run-report.result c.is_ok-self.result c.run-report.ensures.comes c.run-report.ensures.idle c.is_ok-self.ensures.value in
+    let out = outcome (view j) m free (view c.run-report.new.self) _ c.run-report.result _ c.run-report.ensures.comes c.run-report.ensures.idle (search rules) in
     record { lent = c.run-report.ensures.lent; happens = out.0; leaves = out.1 }

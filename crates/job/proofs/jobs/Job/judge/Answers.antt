@@ -20,12 +20,12 @@ record_row-requires g c =
     let s = view j in
     let o = fit s (sound j) in
     let m = g.E.Engine.meaning c.args.engine.now in
-    let m' = g.E.Engine.meaning c.try_number-answers.new.engine in
-    let answers = latest c.try_number-answers.result.answers in
+    let m' = g.E.Engine.meaning c.try_number-conflict.new.engine in
+    let answers = latest c.try_number-conflict.result.answers in
     let at = c.in_ok-conflict.field-0 in
     let assumed = map complement (text_in (texts s) c.args.n) in
-    let r = subst (EndsRight m assumed answers) c.in_ok-conflict.was c.try_number-answers.ensures.right in
-    let e = c.try_number-answers.ensures.does in
+    let r = subst (EndsRight m assumed answers) c.in_ok-conflict.was c.try_number-conflict.ensures.right in
+    let e = c.try_number-conflict.ensures.does in
     record {
       holds = holds_after m m' s (asked answers) e c.requires.holds;
       room = c.requires.room;
@@ -33,7 +33,7 @@ record_row-requires g c =
       known = all_known m s c.requires.holds o assumed answers r.right (g.E.Engine.laws c.args.engine.now);
       few = few_answers m s c.requires.holds o assumed answers r.right;
       live = subst (λ (x : Meaning). (k : ℕ) → k ∈ gathered (text_of x) answers (at ∷ []) → On x k) (sym e)
-          (row_alive (text_of m) (On m) assumed answers at r);
+          (row_alive (text_of m) (text_of m) (On m) assumed answers at r);
     }
 
 pub returns : goal.returns
@@ -41,15 +41,15 @@ returns g c =
     let s = view c.args.self.now in
     let m = g.E.Engine.meaning c.args.engine.now in
     let assumed = map complement (text_in (texts s) c.args.n) in
-    let answers = latest c.try_number-answers.result.answers in
+    let answers = latest c.try_number-conflict.result.answers in
     let at = c.in_ok-conflict.field-0 in
-    let e = c.try_number-answers.ensures.does in
+    let e = c.try_number-conflict.ensures.does in
     record {
       lent = c.record_row.ensures.becomes.lent;
       judged = record {
         answers = answers;
         at = at;
-        conflict = subst (EndsRight m assumed answers) c.in_ok-conflict.was c.try_number-answers.ensures.right;
+        conflict = subst (EndsRight m assumed answers) c.in_ok-conflict.was c.try_number-conflict.ensures.right;
         lists = c.record_row.ensures.becomes.after ∙ ap (λ (x : Meaning). recorded s c.args.n (gathered (text_of x) answers (at ∷ []))) e;
         engine = c.record_row.ensures.does ∙ e;
         counts = c.record_row.ensures.length ∙ ap (λ (x : Meaning). length (gathered (text_of x) answers (at ∷ []))) e;

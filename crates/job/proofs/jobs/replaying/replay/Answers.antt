@@ -1,4 +1,5 @@
-use Rattle.std.proofs.Common.{◌≡◌, ℕ, length, ◌∙◌, subst, arith, rules}
+use Rattle.std.proofs.Common.{◌≡◌, ℕ, ◌<◌, List, length, get_or, ap, ◌∙◌, subst, arith, rules}
+use Rattle.std.proofs.lemmas.Grind.{common_steps}
 use Rattle.std.proofs.lemmas.List.{get_or_default}
 use Rattle.job.specs.declared.jobs.orders.Order.{Order}
 use Rattle.job.specs.View.{View}
@@ -9,13 +10,17 @@ use Rattle.job.specs.Replaying.{blank_order, Came, Played, new_machine}
 use Rattle.job.proofs.Replayed.{played_more, agrees_throughout}
 use Rattle.job.proofs.jobs.replaying.replay.Goals as goal
 
+-- an order of the list that is gone over, where that list is as long as the orders and is them
+the_order : (items orders : List Order) (i : ℕ) (d : Order) → i < length items → length items ≡ length orders → items ≡ orders → get_or items i d ≡ get_or orders i blank_order
+the_order items orders i d h same is = get_or_default items i d blank_order h ∙ ap (λ (os : List Order). get_or os i blank_order) is
+
 pub loop-order-preserved : goal.loop-order-preserved
 loop-order-preserved g c =
     let b = c.obey-last.ensures.lent in
     let a = c.loop-order.invariant.0 in (
       (b.0 ∙ a.0, b.1 ∙ a.1, b.2 ∙ a.2, b.3 ∙ a.3),
       played_more (new_machine (view c.open-job.result)) c.args.orders.now c.loop-order.order-index c.loop-order.last c.obey-last.result (view c.loop-order.job) (view c.obey-last.new.self) c.loop-order.invariant.1
-          (subst (λ (o : Order). Came (view c.loop-order.job) o c.obey-last.result (view c.obey-last.new.self)) (get_or_default c.args.orders.now c.loop-order.order-index _ blank_order c.loop-order-test.true) c.obey-last.ensures.came),
+          (subst (λ (o : Order). Came (view c.loop-order.job) o c.obey-last.result (view c.obey-last.new.self)) (the_order _ c.args.orders.now c.loop-order.order-index _ c.loop-order-test.true (omega arith) (grind (arith, common_steps))) c.obey-last.ensures.came),
     )
 
 pub returns : goal.returns

@@ -1,15 +1,13 @@
-use Rattle.std.proofs.Common.{◌∷◌, decimal, sym, ap, subst}
-use Rattle.std.proofs.lemmas.Bool.{cond-true, cond-false}
-use Rattle.lines.specs.Pages.{Adds}
+use Rattle.std.proofs.Common.{◌≡◌, ℕ, Bool, true, false, cond, List, [], ◌∷◌, ◌++◌, decimal, refl, ap}
 use Rattle.lines.proofs.Additions.{adds_then, adds_as}
-use Rattle.lines.proofs.texts.LiteralText.add_to.Goals.{then-self, else-self}
 use Rattle.lines.proofs.texts.LiteralText.add_to.Goals as goal
+
+-- a byte or nothing, and then more bytes
+headed : (is_there : Bool) (b : ℕ) (bs : List ℕ) → cond is_there (b ∷ []) [] ++ bs ≡ cond is_there (b ∷ bs) bs
+headed true b bs = refl
+headed false b bs = refl
 
 pub returns : goal.returns
 returns c =
-    let digits = decimal c.args.self.now.variable in
-    let wrote = adds_as (ap decimal c.from.ensures) c.add_to.ensures in
-    elim c.if-self.branch [
-      | then-self w ↦ adds_as (sym (cond-true _ (45 ∷ digits) digits w.if-self.true)) (adds_then w.add.ensures (subst (λ p. Adds p digits c.add_to.new.page) w.page-is wrote))
-      | else-self w ↦ adds_as (sym (cond-false _ (45 ∷ digits) digits w.if-self.false)) (subst (λ p. Adds p digits c.add_to.new.page) w.page-is wrote)
-    ]
+    let l = c.args.self.now in
+    adds_as (headed l.negated 45 (decimal l.variable)) (adds_then c.add_if.ensures (adds_as (ap decimal c.from.ensures) c.add_to.ensures))
