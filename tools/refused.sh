@@ -10,7 +10,7 @@
 #   old: TEXT           what stands there, on one line and only once
 #   new: TEXT           what takes its place
 #   error: CODE         the error, as in 'error[CODE]'; or one of several, where builds of the toolchain name it differently
-#   in: CRATE/FILE      only with `hidden`: the file that keeps a name for its crate
+#   in: CRATE/FILE      the file that keeps a name for its crate; asked for where there are several errors
 #   hidden: TEXT        what stands in that file, so that the name isn't refused for being misspelt
 #
 # Usage: tools/refused.sh [EDIT...]     without EDIT: all of refused/
@@ -50,12 +50,17 @@ for edit in "$@"; do
     file=$(field file "$edit")
     codes=$(field error "$edit")
     within=$(field in "$edit")
+    hidden=$(field hidden "$edit")
+    case $codes in
+        *" "*) several=yes ;;
+        *) several= ;;
+    esac
     from=$root/crates/$crate/$file
     to=$work/crates/$crate/$file
     if ! OLD=$(field old "$edit") NEW=$(field new "$edit") replace "$from" >"$to"; then
         echo "BAD EDIT: $name"
         failed=$((failed + 1))
-    elif [ -n "$within" ] && ! grep -qF -e "$(field hidden "$edit")" "$root/crates/$within"; then
+    elif [ -n "$several$within" ] && ! { [ -n "$hidden" ] && grep -qF -e "$hidden" "$root/crates/$within"; }; then
         echo "NOTHING HIDDEN: $name ($within)"
         failed=$((failed + 1))
     else

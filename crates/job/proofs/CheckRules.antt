@@ -9,13 +9,9 @@ use Rattle.job.specs.View.{View, text_in, texts}
 use Rattle.job.specs.History.{inputs_of, steps_of, machine_of}
 use Rattle.job.specs.Checking.{Allowed, lent_by}
 use Rattle.job.proofs.Histories.{length_down}
+use Rattle.job.proofs.Standing.{lemmas_many}
 use Rattle.job.proofs.CheckFit.{Fit}
 use Rattle.job.proofs.CheckArcs.{step_over}
-
-lemmas_many : (inputs : List Clause) (steps : List Step) → length (table inputs steps) ≡ length inputs + lemmas steps
-lemmas_many inputs [] = omega arith
-lemmas_many inputs (learned c ∷ earlier) = let h = lemmas_many inputs earlier in omega arith
-lemmas_many inputs (struck n ∷ earlier) = lemmas_many inputs earlier
 
 module _ (s : View) (o : Fit s) where
   same_lemmas : lemmas (steps_of s) ≡ s.clauses - s.inputs

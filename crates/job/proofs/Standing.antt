@@ -7,7 +7,7 @@ use Rattle.cnf.specs.Clauses.{Clause, ◌∈◌, IsClause, literals}
 use Rattle.cnf.specs.Arranging.{arranged}
 use Rattle.cnf.proofs.Arranging.{all_cons, arranged_length}
 use Rattle.cnf.proofs.Rising.{ascending_clause}
-use Rattle.drup.specs.History.{Step, table, text, is_struck, begun, same_clause, live_copy, Live, learned, struck, next_number}
+use Rattle.drup.specs.History.{Step, table, lemmas, text, is_struck, begun, same_clause, live_copy, Live, learned, struck, next_number}
 use Rattle.drup.specs.Forward.{full}
 use Rattle.drup.specs.WellFormed.{WellFormed}
 use Rattle.drup.specs.Laws.{StrikesLive, strike_of}
@@ -37,6 +37,12 @@ text_down texts (suc k) n low high =
           ap (text (down_from texts (suc k))) same ∙ text_newest (texts (suc k)) (down_from texts k) ∙ ap texts (sym e)
       | inr h ↦ text_older (texts (suc k)) (down_from texts k) n (omega arith) ∙ text_down texts k n low h
     ]
+
+-- each lemma is a clause behind the inputs
+pub lemmas_many : (inputs : List Clause) (steps : List Step) → length (table inputs steps) ≡ length inputs + lemmas steps
+lemmas_many inputs [] = omega arith
+lemmas_many inputs (learned c ∷ earlier) = let h = lemmas_many inputs earlier in omega arith
+lemmas_many inputs (struck n ∷ earlier) = lemmas_many inputs earlier
 
 module _ (s : View) (o : Sound s) where
   -- the clauses stand in the order of their numbers
@@ -125,6 +131,14 @@ module _ (s : View) (o : Sound s) where
   text_at_step k h n low high =
       ap (λ (cs : List Clause). text cs n) (table_down (text_in (texts s)) s.inputs s.steps s.taken o.numbered k h)
       ∙ text_down (text_in (texts s)) (length (table (inputs_of s) (before s k))) n low high
+
+  -- the clauses behind the inputs are the lemmas
+  pub all_lemmas : s.inputs + lemmas (steps_of s) ≡ s.clauses
+  all_lemmas =
+      let a = lemmas_many (inputs_of s) (steps_of s) in
+      let b = length_down (text_in (texts s)) s.inputs in
+      let c = o.complete in
+      omega arith
 
 -- there is a step
 pub begun_taken : (text : ℕ → Clause) (steps : List StepRow) (k : ℕ) → begun (steps_from text steps k) ≡ ltb 0 k

@@ -33,7 +33,8 @@ impl Page<'_> {
         self.next = end;
     }
 
-    /// Adds a byte if it is there. A page with no room counts it without a branch.
+    /// Adds a byte if it is there. The count takes no branch on that.
+    #[inline]
     pub fn add_if(&mut self, is_there: bool, byte: u8)
         ensures { Adds self.old (cond is_there (byte ∷ []) []) self.new }
     {
@@ -44,10 +45,14 @@ impl Page<'_> {
         self.next = end;
     }
 
-    /// Adds a number in base ten.
+    /// Adds a number in base ten. Most are a variable's, and one digit needs no loop.
+    #[inline]
     pub fn add_number(&mut self, n: u64)
         ensures { Adds self.old (decimal n) self.new }
     {
+        if n < 10 {
+            return self.add_if(true, b'0' + n as u8);
+        }
         let end = self.next.saturating_add(number_len(n));
         if end <= self.out.len() {
             write_digits(n, self.out, end);
@@ -60,13 +65,13 @@ impl Page<'_> {
 fn number_len(n: u64) -> usize
     ensures { result ≡ length (decimal n) }
 {
-    if n >= 1000 {
-        number_len(n / 10) + 1
-    } else if n >= 100 {
-        3
-    } else if n >= 10 {
-        2
-    } else {
+    if n < 10 {
         1
+    } else if n < 100 {
+        2
+    } else if n < 1000 {
+        3
+    } else {
+        number_len(n / 10) + 1
     }
 }

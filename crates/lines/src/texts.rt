@@ -21,6 +21,7 @@ pub trait Text {
 impl Text for u64 {
     ghost bytes = { decimal };
 
+    #[inline]
     fn add_to(&self, page: &mut Page<'_>) {
         page.add_number(*self);
     }
@@ -30,6 +31,7 @@ impl Text for u64 {
 impl Text for Literal {
     ghost bytes = { literal_text };
 
+    #[inline]
     fn add_to(&self, page: &mut Page<'_>) {
         page.add_if(self.negated, b'-');
         u64::from(self.variable).add_to(page);
@@ -49,7 +51,7 @@ impl Text for ClauseLine<'_> {
                 return;
             }
             literal.add_to(page);
-            page.add(b" ");
+            page.add_if(true, b' ');
         }
         page.add(b"0\n");
     }

@@ -78,18 +78,9 @@ texts_same (r ∷ rows) ps qs (suc n) used p e =
     λ i. head i ∷ rest i
 
 -- the rows, with the place of a text that lies behind the others
-module _ (rows : List TextRow) (places after : List Literal) (count used : ℕ) (text : List Literal)
-    (placed : Placed rows count used) (front : take used after ≡ take used places)
-    (added : text_at after used (length text) ≡ text) (room : count < length rows) where
+module _ (rows : List TextRow) (count used : ℕ) (text : List Literal) (placed : Placed rows count used) (room : count < length rows) where
   abbrev pub new_row : TextRow
   new_row = record { start = used; length = length text; on = false }
-
-  pub texts_stored : texts_in (set rows count new_row) after (count + 1) ≡ texts_in rows places count ++ text ∷ []
-  texts_stored =
-      ap (map (stored_text after)) (take_more_set rows count new_row room)
-      ∙ map_push (stored_text after) (take count rows) new_row
-      ∙ ap (λ (t : Clause). texts_in rows after count ++ t ∷ []) added
-      ∙ ap (λ (ts : List Clause). ts ++ text ∷ []) (texts_same rows after places count used placed front)
 
   pub marks_stored : marks_in (set rows count new_row) (count + 1) ≡ marks_in rows count ++ false ∷ []
   marks_stored =
@@ -98,6 +89,14 @@ module _ (rows : List TextRow) (places after : List Literal) (count used : ℕ) 
 
   pub placed_stored : Placed (set rows count new_row) (count + 1) (used + length text)
   placed_stored k l = grind (arith, common_steps, placed)
+
+  pub texts_stored : (places after : List Literal) → take used after ≡ take used places → text_at after used (length text) ≡ text
+      → texts_in (set rows count new_row) after (count + 1) ≡ texts_in rows places count ++ text ∷ []
+  texts_stored places after front added =
+      ap (map (stored_text after)) (take_more_set rows count new_row room)
+      ∙ map_push (stored_text after) (take count rows) new_row
+      ∙ ap (λ (t : Clause). texts_in rows after count ++ t ∷ []) added
+      ∙ ap (λ (ts : List Clause). ts ++ text ∷ []) (texts_same rows after places count used placed front)
 
 -- the rows and places of an engine with one text more, which is off
 pub record OneMore (s : Scanning) (text : Clause) (rows : List TextRow) (places : List Literal) (count used : ℕ) : Type 0 where
@@ -154,17 +153,17 @@ module _ (s : Scanning) (text copied : List Literal) (start : ℕ) (is : copied 
     texts_after : texts_in rows_after after count ≡ texts_in s.rows.now s.places.now s.books.room.texts ++ text ∷ []
     texts_after =
         (λ i. texts_in (set s.rows.now (ea i) (record { start = es i; length = length text; on = false })) after (ec i))
-        ∙ texts_stored s.rows.now s.places.now after s.books.room.texts s.books.room.literals text s.placed front added below
+        ∙ texts_stored s.rows.now s.books.room.texts s.books.room.literals text s.placed below s.places.now after front added
 
     pub one_more : OneMore s text rows_after after count used
     one_more = record {
       texts = texts_after;
       marks = (λ i. marks_in (set s.rows.now (ea i) (record { start = es i; length = length text; on = false })) (ec i))
-          ∙ marks_stored s.rows.now s.places.now after s.books.room.texts s.books.room.literals text s.placed front added below;
+          ∙ marks_stored s.rows.now s.books.room.texts s.books.room.literals text s.placed below;
       placed =
           subst₃ (λ (rs : List TextRow) (k u : ℕ). Placed rs k u)
           (λ i. set s.rows.now (sym ea i) (record { start = sym es i; length = length text; on = false })) (sym ec) (sym eu)
-          (placed_stored s.rows.now s.places.now after s.books.room.texts s.books.room.literals text s.placed front added below);
+          (placed_stored s.rows.now s.books.room.texts s.books.room.literals text s.placed below);
       counted =
           ap literals texts_after ∙ literals_push (texts_in s.rows.now s.places.now s.books.room.texts) text
           ∙ ap (λ (n : ℕ). n + length text) s.counted ∙ sym eu;

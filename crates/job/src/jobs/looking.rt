@@ -15,10 +15,12 @@ use engine::looks::text_at;
 
 /// Whether two clauses have the same literals; both stand by rising variable.
 // Pair by pair up to the first that differs, since most clauses differ in their first literals.
+// Variable and sign in one test: by `==` of literals they are two branches, and clauses that differ by a sign cost up to four times as much.
 fn same_clause(a: &[Literal], b: &[Literal]) -> bool
     ensures { result ≡ same_clause a.now b.now }
 {
-    a.len() == b.len() && a.iter().zip(b).all(|(k, l)| k == l)
+    a.len() == b.len()
+        && a.iter().zip(b).all(|(k, l)| (k.variable == l.variable) & (k.negated == l.negated))
 }
 
 impl Job<'_> {

@@ -13,12 +13,12 @@ loop-literal-preserved c =
     let xs = c.args.self.now.0.now in
     let i = c.loop-literal.literal-index in
     let more = append_assoc (flat_map literal_word (take i xs)) (literal_text (get_or xs i none)) (codes " ") ∙ sym (joined_push literal_word xs i none c.loop-literal-test.true) in
-    adds_as more (adds_then (adds_then c.loop-literal.invariant c.add_to.ensures) c.add.ensures)
+    adds_as more (adds_then (adds_then c.loop-literal.invariant c.add_to.ensures) c.add_if.ensures)
 
 pub returns : goal.returns
 returns c =
     let all = ap (flat_map literal_word) (take_all c.loop-literal.literal-index c.args.self.now.0.now c.loop-literal-test.false) in
-    adds_then (adds_as all c.loop-literal.invariant) c.add-2.ensures
+    adds_then (adds_as all c.loop-literal.invariant) c.add.ensures
 
 pub returns-then-is_full : goal.returns-then-is_full
 returns-then-is_full c =
