@@ -34,7 +34,7 @@ impl Page<'_> {
     }
 
     /// Adds a byte if it is there. The count takes no branch on that.
-    #[inline]
+    #[inline(always)]
     pub fn add_if(&mut self, is_there: bool, byte: u8)
         ensures { Adds self.old (cond is_there (byte ∷ []) []) self.new }
     {
@@ -45,14 +45,11 @@ impl Page<'_> {
         self.next = end;
     }
 
-    /// Adds a number in base ten. Most are a variable's, and one digit needs no loop.
-    #[inline]
+    /// Adds a number in base ten.
+    #[inline(always)]
     pub fn add_number(&mut self, n: u64)
         ensures { Adds self.old (decimal n) self.new }
     {
-        if n < 10 {
-            return self.add_if(true, b'0' + n as u8);
-        }
         let end = self.next.saturating_add(number_len(n));
         if end <= self.out.len() {
             write_digits(n, self.out, end);

@@ -1,7 +1,7 @@
 //! The texts: each is said once, as what it adds to a page.
 ghost use Rattle.std.specs.Prelude.{◌≡◌, ℕ, List, map, vec_items, decimal};
 ghost use Rattle.lines.specs.Pages.{Adds};
-ghost use Rattle.lines.specs.Texts.{literal_text, clause_line, pair_line, heading_line, refusal_line, formula_text};
+ghost use Rattle.lines.specs.Texts.{literal_text, literal_word, clause_line, pair_line, heading_line, refusal_line, formula_text};
 
 use crate::pages::Page;
 use cnf::literals::Literal;
@@ -21,7 +21,7 @@ pub trait Text {
 impl Text for u64 {
     ghost bytes = { decimal };
 
-    #[inline]
+    #[inline(always)]
     fn add_to(&self, page: &mut Page<'_>) {
         page.add_number(*self);
     }
@@ -31,11 +31,28 @@ impl Text for u64 {
 impl Text for Literal {
     ghost bytes = { literal_text };
 
-    #[inline]
+    #[inline(always)]
     fn add_to(&self, page: &mut Page<'_>) {
         page.add_if(self.negated, b'-');
         u64::from(self.variable).add_to(page);
     }
+}
+
+/// Adds a literal and a space.
+#[inline(always)]
+fn add_word(page: &mut Page<'_>, literal: Literal)
+    ensures { Adds page.old (literal_word literal) page.new }
+{
+    // One digit is added at once with what stands beside it: small jobs have no other variables.
+    if literal.variable < 10 {
+        let digit = b'0' + literal.variable as u8;
+        if literal.negated {
+            return page.add(&[b'-', digit, b' ']);
+        }
+        return page.add(&[digit, b' ']);
+    }
+    literal.add_to(page);
+    page.add_if(true, b' ');
 }
 
 /// A clause's line.
@@ -50,8 +67,7 @@ impl Text for ClauseLine<'_> {
             if page.is_full() {
                 return;
             }
-            literal.add_to(page);
-            page.add_if(true, b' ');
+            add_word(page, *literal);
         }
         page.add(b"0\n");
     }

@@ -12,8 +12,7 @@ pub loop-literal-preserved : goal.loop-literal-preserved
 loop-literal-preserved c =
     let xs = c.args.self.now.0.now in
     let i = c.loop-literal.literal-index in
-    let more = append_assoc (flat_map literal_word (take i xs)) (literal_text (get_or xs i none)) (codes " ") ∙ sym (joined_push literal_word xs i none c.loop-literal-test.true) in
-    adds_as more (adds_then (adds_then c.loop-literal.invariant c.add_to.ensures) c.add_if.ensures)
+    adds_as (sym (joined_push literal_word xs i none c.loop-literal-test.true)) (adds_then c.loop-literal.invariant c.add_word.ensures)
 
 pub returns : goal.returns
 returns c =
